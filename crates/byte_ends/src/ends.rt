@@ -25,7 +25,8 @@ pub trait Source {
     fn read(&mut self, buf: &mut [u8]) -> io::Result<usize>
         ensures bound { ReadsAtMost result buf.new }
         ensures bytes { ReadConsumes (remaining self.old) (remaining self.new) result buf.new }
-        ensures counts { CountsRead result (failed self.old) (fruitless self.old) (failed self.new) (fruitless self.new) };
+        ensures counts { CountsRead result (failed self.old) (fruitless self.old) (failed self.new)
+            (fruitless self.new) };
 }
 
 /// Where bytes go, with its faults counted for contracts. Each count stays at 2^64 - 1.
@@ -45,7 +46,8 @@ pub trait Sink {
     fn write(&mut self, buf: &[u8]) -> io::Result<usize>
         ensures bound { WritesAtMost result buf.now }
         ensures bytes { WriteAppends (contents self.old) (contents self.new) result buf.now }
-        ensures counts { CountsWrite result buf.now (failed self.old) (fruitless self.old) (failed self.new) (fruitless self.new) };
+        ensures counts { CountsWrite result buf.now (failed self.old) (fruitless self.old)
+            (failed self.new) (fruitless self.new) };
 }
 
 /// Reads into the front of `buf`, once but for reads that fail by `Interrupted`: each of these is
@@ -53,7 +55,8 @@ pub trait Sink {
 /// otherwise, or the 1,000th. Nothing is read behind it, and it consumes nothing.
 pub fn read_some<S: Source>(source: &mut S, buf: &mut [u8]) -> Option<usize>
     ensures bytes { ReadsSome result (S.remaining source.old) (S.remaining source.new) buf.new }
-    ensures counts { CountsTry result (S.failed source.old) (S.fruitless source.old) (S.failed source.new) (S.fruitless source.new) }
+    ensures counts { CountsTry result (S.failed source.old) (S.fruitless source.old)
+        (S.failed source.new) (S.fruitless source.new) }
 {
     for _read in 0..MOST_FRUITLESS {
         match source.read(buf) {
@@ -72,7 +75,8 @@ pub fn read_some<S: Source>(source: &mut S, buf: &mut [u8]) -> Option<usize>
 pub fn write_some<W: Sink>(sink: &mut W, text: &[u8]) -> Option<usize>
     requires { 0 < length text.now }
     ensures bytes { WritesSome result (W.contents sink.old) (W.contents sink.new) text.now }
-    ensures counts { CountsTry result (W.failed sink.old) (W.fruitless sink.old) (W.failed sink.new) (W.fruitless sink.new) }
+    ensures counts { CountsTry result (W.failed sink.old) (W.fruitless sink.old) (W.failed sink.new)
+        (W.fruitless sink.new) }
 {
     for _write in 0..MOST_FRUITLESS {
         match sink.write(text) {
@@ -88,7 +92,8 @@ pub fn write_some<W: Sink>(sink: &mut W, text: &[u8]) -> Option<usize>
 /// after a front of the text was written; nothing is written behind it.
 pub fn write_text<W: Sink>(sink: &mut W, text: &[u8]) -> bool
     ensures bytes { WritesText result (W.contents sink.old) (W.contents sink.new) text.now }
-    ensures counts { CountsTries result (W.failed sink.old) (W.fruitless sink.old) (W.failed sink.new) (W.fruitless sink.new) }
+    ensures counts { CountsTries result (W.failed sink.old) (W.fruitless sink.old)
+        (W.failed sink.new) (W.fruitless sink.new) }
 {
     let mut at = 0;
     while at < text.len() {

@@ -28,7 +28,8 @@ impl FaultCounts {
     /// Counts a call with this fault.
     #[cold]
     pub fn count_fault(&mut self, fault: &io::Error)
-        ensures { CountsFault (error_kind fault.now) self.old.failed self.old.fruitless self.new.failed self.new.fruitless }
+        ensures { CountsFault (error_kind fault.now) self.old.failed self.old.fruitless
+            self.new.failed self.new.fruitless }
     {
         if fault.kind() == ErrorKind::Interrupted {
             self.fruitless = self.fruitless.saturating_add(1);
@@ -40,7 +41,8 @@ impl FaultCounts {
     /// Counts a call that failed.
     #[cold]
     pub fn count_failed(&mut self)
-        ensures { OneFailed 0 self.old.failed self.old.fruitless self.new.failed self.new.fruitless }
+        ensures { OneFailed 0 self.old.failed self.old.fruitless self.new.failed
+            self.new.fruitless }
     {
         self.failed = self.failed.saturating_add(1);
     }

@@ -70,9 +70,11 @@ impl<A: Allocator> Held<A> {
     /// Reads once, by [`read_some`], behind what is held. A fault changes nothing.
     pub fn fill<S: Source>(&mut self, source: &mut S) -> Filled
         requires { length self.old < PIECE }
-        ensures bytes { Fills result (S.remaining source.old) (S.remaining source.new) self.old self.new }
+        ensures bytes { Fills result (S.remaining source.old) (S.remaining source.new) self.old
+            self.new }
         ensures few { length self.new ≤ PIECE }
-        ensures counts { CountsFill result (S.failed source.old) (S.fruitless source.old) (S.failed source.new) (S.fruitless source.new) }
+        ensures counts { CountsFill result (S.failed source.old) (S.fruitless source.old)
+            (S.failed source.new) (S.fruitless source.new) }
     {
         self.buffer.copy_within(self.from..self.to, 0);
         self.to -= self.from;

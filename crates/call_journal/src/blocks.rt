@@ -15,7 +15,8 @@ use toml::{Table, Value};
 /// The tables of the blocks of these calls. `Err` is want of memory.
 pub fn block_values(heap: Global, calls: &[MadeCall]) -> Result<Vec<Value>, AllocError>
     requires { length calls.now ≤ most_calls }
-    ensures { IfOk result (λ v. items_view v.items ≡ block_items (block_count (length calls.now)) 0 0 calls.now) }
+    ensures { IfOk result
+        (λ v. items_view v.items ≡ block_items (block_count (length calls.now)) 0 0 calls.now) }
 {
     let count = calls.len().div_ceil(MOST_BLOCK_CALLS);
     let mut values = Vec::with_capacity(heap, count)?;

@@ -12,7 +12,8 @@ use toml::{Table, Value};
 
 /// Puts a value at a key of a table. `Err` is want of memory.
 pub fn put(heap: Global, table: &mut Table, key: &str, value: Value) -> Result<(), AllocError>
-    ensures { OnOk result (table_view table.new ≡ with_member key.now (view value) (table_view table.old)) }
+    ensures { OnOk result
+        (table_view table.new ≡ with_member key.now (view value) (table_view table.old)) }
 {
     let key = String::from_str(heap, key)?;
     drop(table.insert(key, value)?);
@@ -21,14 +22,17 @@ pub fn put(heap: Global, table: &mut Table, key: &str, value: Value) -> Result<(
 
 /// Puts a text at a key of a table. `Err` is want of memory.
 pub fn put_text(heap: Global, table: &mut Table, key: &str, text: &str) -> Result<(), AllocError>
-    ensures { OnOk result (table_view table.new ≡ with_member key.now (string text.now) (table_view table.old)) }
+    ensures { OnOk result
+        (table_view table.new ≡ with_member key.now (string text.now) (table_view table.old)) }
 {
     put(heap, table, key, Value::string(heap, text)?)
 }
 
 /// Puts the name of a task at `name`. `Err` is want of memory.
 pub fn put_name(heap: Global, table: &mut Table, task: u32) -> Result<(), AllocError>
-    ensures { OnOk result (table_view table.new ≡ with_member (codes "name") (string (task_name task)) (table_view table.old)) }
+    ensures { OnOk result
+        (table_view table.new
+        ≡ with_member (codes "name") (string (task_name task)) (table_view table.old)) }
 {
     let name = task_name(heap, task)?;
     put_text(heap, table, "name", &name)
@@ -49,7 +53,10 @@ pub fn put_span(
     unit: &str,
     nanos: u64,
 ) -> Result<(), AllocError>
-    ensures { OnOk result (table_view table.new ≡ with_member unit.now (string (codes "ns")) (with_member key.now (integer (pos (written nanos))) (table_view table.old))) }
+    ensures { OnOk result
+        (table_view table.new
+        ≡ with_member unit.now (string (codes "ns"))
+        (with_member key.now (integer (pos (written nanos))) (table_view table.old))) }
 {
     put(heap, table, key, Value::Integer(written(nanos)))?;
     put_text(heap, table, unit, "ns")

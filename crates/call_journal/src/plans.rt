@@ -24,8 +24,11 @@ use toml::{Table, Value};
 /// A fault of block 0 and call 0: `TooMany` exactly where there are more than 65,536 calls; else `TooLong` where the text would
 /// be longer than 1,048,576 bytes, and `Memory` where the heap refuses the memory.
 pub fn plan_text(alloc: impl HeapAllocator, calls: &[MadeCall]) -> Result<String, PlanFault>
-    ensures text { IfOk result (λ s. IsDocumentText false (tree_of_calls calls.now) (string_bytes s)) }
-    ensures only { IfOk result (λ s. (printed : List ℕ) → IsDocumentText false (tree_of_calls calls.now) printed → printed ≡ string_bytes s) }
+    ensures text { IfOk result
+        (λ s. IsDocumentText false (tree_of_calls calls.now) (string_bytes s)) }
+    ensures only { IfOk result
+        (λ s. (printed : List ℕ) → IsDocumentText false (tree_of_calls calls.now) printed
+        → printed ≡ string_bytes s) }
     ensures reads { IfOk result (λ s. tree_of (string_bytes s) ≡ Some (tree_of_calls calls.now)) }
     ensures short { IfOk result (λ s. length (string_bytes s) ≤ longest_text) }
     ensures few { IfOk result (λ s. length calls.now ≤ most_calls) }

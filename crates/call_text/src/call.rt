@@ -48,7 +48,8 @@ pub fn read_call(line: &[u8]) -> Option<CallLine>
 /// there; the limits of its numbers are those of [`read_call`].
 #[inline(always)]
 pub fn split_call(bytes: &[u8]) -> Option<(CallLine, &[u8])>
-    ensures { MatchOption result (IsUnread call_line FitsCall bytes.now) (λ r. IsRead call_line FitsCall bytes.now r.0 r.1.now) }
+    ensures { MatchOption result (IsUnread call_line FitsCall bytes.now)
+        (λ r. IsRead call_line FitsCall bytes.now r.0 r.1.now) }
 {
     let Some(rest) = strip_word(bytes, *b"call ") else {
         return None;
@@ -59,7 +60,8 @@ pub fn split_call(bytes: &[u8]) -> Option<(CallLine, &[u8])>
 /// The call of a line that begins with `call `, of which these bytes are what follows.
 #[inline(always)]
 fn split_named(bytes: &[u8]) -> Option<(CallLine, &[u8])>
-    ensures { MatchOption result (IsUnread call_line FitsCall (codes "call " ++ bytes.now)) (λ r. IsRead call_line FitsCall (codes "call " ++ bytes.now) r.0 r.1.now) }
+    ensures { MatchOption result (IsUnread call_line FitsCall (codes "call " ++ bytes.now))
+        (λ r. IsRead call_line FitsCall (codes "call " ++ bytes.now) r.0 r.1.now) }
 {
     if let Some(rest) = strip_word(bytes, *b"schedule ") {
         let (span, rest) = span_before(rest, b"\n")?;
@@ -99,7 +101,8 @@ fn split_named(bytes: &[u8]) -> Option<(CallLine, &[u8])>
 /// The span to a first run, at most 2^62 nanoseconds, and a period or a delay, 1 to 2^62, to the newline, and what follows it.
 /// `None` exactly when they are not there.
 fn split_spans(bytes: &[u8]) -> Option<((u64, u64), &[u8])>
-    ensures { MatchOption result (IsUnread spans_text FitsSpans bytes.now) (λ r. IsRead spans_text FitsSpans bytes.now r.0 r.1.now) }
+    ensures { MatchOption result (IsUnread spans_text FitsSpans bytes.now)
+        (λ r. IsRead spans_text FitsSpans bytes.now r.0 r.1.now) }
 {
     let Some((first, rest)) = span_before(bytes, b" ") else {
         return None;
@@ -112,7 +115,8 @@ fn split_spans(bytes: &[u8]) -> Option<((u64, u64), &[u8])>
 
 /// A policy and what it is set to, to the newline, and what follows it. `None` exactly when they are not there.
 fn split_set(bytes: &[u8]) -> Option<((Which, bool), &[u8])>
-    ensures { MatchOption result (IsUnread set_text Any bytes.now) (λ r. IsRead set_text Any bytes.now r.0 r.1.now) }
+    ensures { MatchOption result (IsUnread set_text Any bytes.now)
+        (λ r. IsRead set_text Any bytes.now r.0 r.1.now) }
 {
     let Some((which, rest)) = split_which(bytes) else {
         return None;

@@ -16,7 +16,9 @@ pub fn entry_equality_tells()
 /// An entry compares as less than another exactly when it comes before it: the earlier moment first, and at one moment the
 /// smaller task number.
 pub fn entry_order_tells()
-    ensures { (a b : entry) → partial_lt ⟦<Entry as PartialOrd>⟧.partial_cmp a b ≡ comes_before a.due a.task b.due b.task }
+    ensures { (a b : entry)
+        → partial_lt ⟦<Entry as PartialOrd>⟧.partial_cmp a b
+        ≡ comes_before a.due a.task b.due b.task }
 {}
 
 /// Two errors compare as equal exactly when they are the same.

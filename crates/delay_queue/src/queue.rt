@@ -55,9 +55,12 @@ impl<A: Allocator> DelayQueue<A> {
     pub fn insert(&mut self, entry: Entry)
         requires known { entry.task < length self.old.entries }
         requires absent { due_in self.old.entries entry.task ≡ None }
-        ensures inserted { self.new.entries ≡ slice_set self.old.entries entry.task (Some entry.due) }
-        ensures touched { Touches self.old.touched self.new.touched (min 1 (entry_count self.old.entries)) (most_touches (entry_count self.old.entries)) }
-        ensures counted { CountsTouches self.old self.new.touched (λ heap times. times ≡ insert_touches heap entry) }
+        ensures inserted { self.new.entries
+            ≡ slice_set self.old.entries entry.task (Some entry.due) }
+        ensures touched { Touches self.old.touched self.new.touched
+            (min 1 (entry_count self.old.entries)) (most_touches (entry_count self.old.entries)) }
+        ensures counted { CountsTouches self.old self.new.touched
+            (λ heap times. times ≡ insert_touches heap entry) }
     {
         self.slots.insert(in_slot(entry));
     }
@@ -76,11 +79,17 @@ impl<A: Allocator> DelayQueue<A> {
     pub fn poll(&mut self, now: u64) -> Option<Entry>
         ensures least { IfSome result (λ e. IsLeast self.old.entries e.due e.task) }
         ensures due { IfSome result (λ e. e.due ≤ now) }
-        ensures removed { IfSome result (λ e. self.new.entries ≡ slice_set self.old.entries e.task None) }
+        ensures removed { IfSome result
+            (λ e. self.new.entries ≡ slice_set self.old.entries e.task None) }
         ensures none_due { IfNone result (NoneIsDue self.old.entries now) }
         ensures unchanged { IfNone result (self.new.entries ≡ self.old.entries) }
-        ensures touched { IfSome result (λ _. Touches self.old.touched self.new.touched (min 1 (entry_count self.old.entries - 1)) (most_touches (entry_count self.old.entries))) }
-        ensures counted { IfSome result (λ _. CountsTouches self.old self.new.touched (λ heap times. times ≡ take_touches heap 0)) }
+        ensures touched { IfSome result
+            (λ _. Touches self.old.touched self.new.touched
+            (min 1 (entry_count self.old.entries - 1))
+            (most_touches (entry_count self.old.entries))) }
+        ensures counted { IfSome result
+            (λ _. CountsTouches self.old self.new.touched
+            (λ heap times. times ≡ take_touches heap 0)) }
         ensures untouched { IfNone result (self.new.touched ≡ self.old.touched) }
     {
         Some(of_task(self.slots.poll(now)?))
@@ -91,9 +100,13 @@ impl<A: Allocator> DelayQueue<A> {
         ensures there { result ≡ is_some (due_in self.old.entries task) }
         ensures removed { self.new.entries ≡ slice_set self.old.entries task None }
         ensures unchanged { result ≡ false → self.new.entries ≡ self.old.entries }
-        ensures touched { Touches self.old.touched self.new.touched 0 (most_touches (entry_count self.old.entries)) }
-        ensures least { (due : ℕ) → IsLeast self.old.entries due task → Touches self.old.touched self.new.touched (min 1 (entry_count self.old.entries - 1)) (most_touches (entry_count self.old.entries)) }
-        ensures counted { result ≡ true → CountsTouches self.old self.new.touched (RemovalMakes task) }
+        ensures touched { Touches self.old.touched self.new.touched 0
+            (most_touches (entry_count self.old.entries)) }
+        ensures least { (due : ℕ) → IsLeast self.old.entries due task
+            → Touches self.old.touched self.new.touched (min 1 (entry_count self.old.entries - 1))
+            (most_touches (entry_count self.old.entries)) }
+        ensures counted { result ≡ true
+            → CountsTouches self.old self.new.touched (RemovalMakes task) }
         ensures untouched { result ≡ false → self.new.touched ≡ self.old.touched }
     {
         self.slots.remove(task)

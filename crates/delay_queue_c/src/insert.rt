@@ -16,9 +16,15 @@ use std::alloc::Global;
 pub extern "C" fn dq_ref_try_insert(alloc: Global, slot: &mut Slot, due: u64, task: u32) -> u32
     ensures answers { result ≡ insert_status slot.old.full slot.old.held.value.entries task }
     ensures full { slot.new.full ≡ slot.old.full }
-    ensures inserted { result ≡ done → slot.new.held.value.entries ≡ slice_set slot.old.held.value.entries task (Some due) }
-    ensures touched { result ≡ done → Touches slot.old.held.value.touched slot.new.held.value.touched (min 1 (entry_count slot.old.held.value.entries)) (most_touches (entry_count slot.old.held.value.entries)) }
-    ensures counted { result ≡ done → CountsTouches slot.old.held.value slot.new.held.value.touched (λ heap times. times ≡ insert_touches heap (entry due task)) }
+    ensures inserted { result ≡ done
+        → slot.new.held.value.entries ≡ slice_set slot.old.held.value.entries task (Some due) }
+    ensures touched { result ≡ done
+        → Touches slot.old.held.value.touched slot.new.held.value.touched
+        (min 1 (entry_count slot.old.held.value.entries))
+        (most_touches (entry_count slot.old.held.value.entries)) }
+    ensures counted { result ≡ done
+        → CountsTouches slot.old.held.value slot.new.held.value.touched
+        (λ heap times. times ≡ insert_touches heap (entry due task)) }
     ensures unchanged { result ≢ done → IsSame slot.old.held.value slot.new.held.value }
 {
     let tasks = slot.tasks;
@@ -35,9 +41,14 @@ pub(crate) fn insert_into(queue: &mut DelayQueue<Global>, tasks: u32, due: u64, 
     requires { length queue.old.entries ≡ tasks }
     ensures answers { number_of result ≡ insert_status true queue.old.entries task }
     ensures length { length queue.new.entries ≡ tasks }
-    ensures inserted { number_of result ≡ done → queue.new.entries ≡ slice_set queue.old.entries task (Some due) }
-    ensures touched { number_of result ≡ done → Touches queue.old.touched queue.new.touched (min 1 (entry_count queue.old.entries)) (most_touches (entry_count queue.old.entries)) }
-    ensures counted { number_of result ≡ done → CountsTouches queue.old queue.new.touched (λ heap times. times ≡ insert_touches heap (entry due task)) }
+    ensures inserted { number_of result ≡ done
+        → queue.new.entries ≡ slice_set queue.old.entries task (Some due) }
+    ensures touched { number_of result ≡ done
+        → Touches queue.old.touched queue.new.touched (min 1 (entry_count queue.old.entries))
+        (most_touches (entry_count queue.old.entries)) }
+    ensures counted { number_of result ≡ done
+        → CountsTouches queue.old queue.new.touched
+        (λ heap times. times ≡ insert_touches heap (entry due task)) }
     ensures unchanged { number_of result ≢ done → queue.new ≡ queue.old }
 {
     if task >= tasks {
@@ -57,9 +68,13 @@ pub extern "C" fn dq_insert_unchecked(alloc: Global, slot: &mut Slot, due: u64, 
     requires known { task < length slot.old.held.value.entries }
     requires absent { due_in slot.old.held.value.entries task ≡ None }
     ensures full { slot.new.full ≡ true }
-    ensures inserted { slot.new.held.value.entries ≡ slice_set slot.old.held.value.entries task (Some due) }
-    ensures touched { Touches slot.old.held.value.touched slot.new.held.value.touched (min 1 (entry_count slot.old.held.value.entries)) (most_touches (entry_count slot.old.held.value.entries)) }
-    ensures counted { CountsTouches slot.old.held.value slot.new.held.value.touched (λ heap times. times ≡ insert_touches heap (entry due task)) }
+    ensures inserted { slot.new.held.value.entries
+        ≡ slice_set slot.old.held.value.entries task (Some due) }
+    ensures touched { Touches slot.old.held.value.touched slot.new.held.value.touched
+        (min 1 (entry_count slot.old.held.value.entries))
+        (most_touches (entry_count slot.old.held.value.entries)) }
+    ensures counted { CountsTouches slot.old.held.value slot.new.held.value.touched
+        (λ heap times. times ≡ insert_touches heap (entry due task)) }
 {
     let tasks = slot.tasks;
     if let Some(mut queue) = slot.take(alloc) {

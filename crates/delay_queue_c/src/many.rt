@@ -20,11 +20,14 @@ pub extern "C" fn dq_ref_insert_many(
     entries: &[DqEntry],
     inserted: &mut usize,
 ) -> u32
-    ensures no_queue { slot.old.full ≡ false → (result ≡ no_queue) × (slot.new ≡ slot.old) × (inserted.new ≡ 0) }
+    ensures no_queue { slot.old.full ≡ false
+        → (result ≡ no_queue) × (slot.new ≡ slot.old) × (inserted.new ≡ 0) }
     ensures full { slot.new.full ≡ slot.old.full }
     ensures within { inserted.new ≤ length entries.now }
-    ensures added { slot.old.full ≡ true → InsertsEach slot.old.held.value (take inserted.new entries.now) slot.new.held.value }
-    ensures stops { slot.old.full ≡ true → Stops slot.new.held.value (drop inserted.new entries.now) result }
+    ensures added { slot.old.full ≡ true
+        → InsertsEach slot.old.held.value (take inserted.new entries.now) slot.new.held.value }
+    ensures stops { slot.old.full ≡ true
+        → Stops slot.new.held.value (drop inserted.new entries.now) result }
 {
     let tasks = slot.tasks;
     let Some(mut queue) = slot.take(alloc) else {
@@ -71,8 +74,10 @@ pub extern "C" fn dq_ref_poll_many(
     ensures full { slot.new.full ≡ slot.old.full }
     ensures room { length out.new ≡ length out.old }
     ensures within { polled.new ≤ length out.old }
-    ensures polled { slot.old.full ≡ true → PollsEach slot.old.held.value now (take polled.new out.new) slot.new.held.value }
-    ensures none_due { slot.old.full ≡ true → polled.new < length out.old → NoneIsDue slot.new.held.value.entries now }
+    ensures polled { slot.old.full ≡ true
+        → PollsEach slot.old.held.value now (take polled.new out.new) slot.new.held.value }
+    ensures none_due { slot.old.full ≡ true → polled.new < length out.old
+        → NoneIsDue slot.new.held.value.entries now }
     ensures unwritten { drop polled.new out.new ≡ drop polled.new out.old }
 {
     let tasks = slot.tasks;

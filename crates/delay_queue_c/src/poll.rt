@@ -18,9 +18,15 @@ pub extern "C" fn dq_ref_poll(alloc: Global, slot: &mut Slot, now: u64, out: &mu
     ensures full { slot.new.full ≡ slot.old.full }
     ensures least { result ≡ done → IsLeast slot.old.held.value.entries out.new.due out.new.task }
     ensures due { result ≡ done → out.new.due ≤ now }
-    ensures removed { result ≡ done → slot.new.held.value.entries ≡ slice_set slot.old.held.value.entries out.new.task None }
-    ensures touched { result ≡ done → Touches slot.old.held.value.touched slot.new.held.value.touched (min 1 (entry_count slot.old.held.value.entries - 1)) (most_touches (entry_count slot.old.held.value.entries)) }
-    ensures counted { result ≡ done → CountsTouches slot.old.held.value slot.new.held.value.touched (λ heap times. times ≡ take_touches heap 0) }
+    ensures removed { result ≡ done
+        → slot.new.held.value.entries ≡ slice_set slot.old.held.value.entries out.new.task None }
+    ensures touched { result ≡ done
+        → Touches slot.old.held.value.touched slot.new.held.value.touched
+        (min 1 (entry_count slot.old.held.value.entries - 1))
+        (most_touches (entry_count slot.old.held.value.entries)) }
+    ensures counted { result ≡ done
+        → CountsTouches slot.old.held.value slot.new.held.value.touched
+        (λ heap times. times ≡ take_touches heap 0) }
     ensures none_due { result ≡ no_entry → NoneIsDue slot.old.held.value.entries now }
     ensures unchanged { result ≢ done → IsSame slot.old.held.value slot.new.held.value }
     ensures unwritten { result ≢ done → out.new ≡ out.old }
@@ -43,10 +49,17 @@ pub extern "C" fn dq_ref_poll(alloc: Global, slot: &mut Slot, now: u64, out: &mu
 pub extern "C" fn dq_ref_remove(alloc: Global, slot: &mut Slot, task: u32) -> u32
     ensures answers { result ≡ look_status slot.old.full slot.old.held.value.entries task }
     ensures full { slot.new.full ≡ slot.old.full }
-    ensures removed { result ≡ done → slot.new.held.value.entries ≡ slice_set slot.old.held.value.entries task None }
-    ensures touched { result ≡ done → Touches slot.old.held.value.touched slot.new.held.value.touched 0 (most_touches (entry_count slot.old.held.value.entries)) }
-    ensures least { result ≡ done → (due : ℕ) → IsLeast slot.old.held.value.entries due task → Touches slot.old.held.value.touched slot.new.held.value.touched (min 1 (entry_count slot.old.held.value.entries - 1)) (most_touches (entry_count slot.old.held.value.entries)) }
-    ensures counted { result ≡ done → CountsTouches slot.old.held.value slot.new.held.value.touched (RemovalMakes task) }
+    ensures removed { result ≡ done
+        → slot.new.held.value.entries ≡ slice_set slot.old.held.value.entries task None }
+    ensures touched { result ≡ done
+        → Touches slot.old.held.value.touched slot.new.held.value.touched 0
+        (most_touches (entry_count slot.old.held.value.entries)) }
+    ensures least { result ≡ done → (due : ℕ) → IsLeast slot.old.held.value.entries due task
+        → Touches slot.old.held.value.touched slot.new.held.value.touched
+        (min 1 (entry_count slot.old.held.value.entries - 1))
+        (most_touches (entry_count slot.old.held.value.entries)) }
+    ensures counted { result ≡ done
+        → CountsTouches slot.old.held.value slot.new.held.value.touched (RemovalMakes task) }
     ensures unchanged { result ≢ done → IsSame slot.old.held.value slot.new.held.value }
 {
     let tasks = slot.tasks;

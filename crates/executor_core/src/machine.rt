@@ -139,15 +139,25 @@ impl<A: Allocator> Core<A> {
     ) -> Result<(), CoreError>
         ensures full { IsErrOf result CoreError.Full ↔ (self.old.taken ≡ self.old.limit) }
         ensures others { IfErr result (λ e. (e ≡ CoreError.Full) ⊎ (e ≡ CoreError.Memory)) }
-        ensures room { vec_len out.old + room_of self.old ≤ vec_capacity out.old → self.old.taken < self.old.limit → IsOk result }
-        ensures capacity { vec_len out.old + room_of self.old ≤ vec_capacity out.old → vec_capacity out.new ≡ vec_capacity out.old }
+        ensures room { vec_len out.old + room_of self.old ≤ vec_capacity out.old
+            → self.old.taken < self.old.limit → IsOk result }
+        ensures capacity { vec_len out.old + room_of self.old ≤ vec_capacity out.old
+            → vec_capacity out.new ≡ vec_capacity out.old }
         ensures keeps { vec_capacity out.old ≤ vec_capacity out.new }
         ensures shrinks { room_of self.new ≤ room_of self.old }
-        ensures refused { OnErr result ((self.new ≡ self.old) × (out.new.items ≡ out.old.items) × (vec_capacity out.new ≡ vec_capacity out.old)) }
+        ensures refused { OnErr result
+            ((self.new ≡ self.old) × (out.new.items ≡ out.old.items)
+            × (vec_capacity out.new ≡ vec_capacity out.old)) }
         ensures taken { OnOk result (self.new.taken ≡ self.old.taken + 1) }
-        ensures steps { OnOk result (Steps self.old self.new out.old.items out.new.items (part_of self.old.calls self.old.made self.old.moment event)) }
-        ensures errors { OnOk result (ErrorOnlyCounts self.old self.new out.old.items out.new.items event) }
-        ensures history { OnOk result ((past : List histories.HistoryEntry) → histories.IsHistoryOf self.old.calls (workers_of self.old) past → Stands self.old past
+        ensures steps { OnOk result
+            (Steps self.old self.new out.old.items out.new.items
+            (part_of self.old.calls self.old.made self.old.moment event)) }
+        ensures errors { OnOk result
+            (ErrorOnlyCounts self.old self.new out.old.items out.new.items event) }
+        ensures history { OnOk result
+            ((past : List histories.HistoryEntry)
+            → histories.IsHistoryOf self.old.calls (workers_of self.old) past
+            → Stands self.old past
             → Continues self.old self.new out.old.items out.new.items event past) }
     {
         if self.taken == self.limit {

@@ -13,7 +13,8 @@ pub fn make_room<T, A: Allocator>(list: &mut Vec<T, A>, more: usize) -> Result<(
     ensures len { vec_len list.new ≡ vec_len list.old }
     ensures room { OnOk result (vec_len list.new + more ≤ vec_capacity list.new) }
     ensures keeps { vec_capacity list.old ≤ vec_capacity list.new }
-    ensures enough { vec_len list.old + more ≤ vec_capacity list.old → IsOk result × (vec_capacity list.new ≡ vec_capacity list.old) }
+    ensures enough { vec_len list.old + more ≤ vec_capacity list.old
+        → IsOk result × (vec_capacity list.new ≡ vec_capacity list.old) }
     ensures refused { OnErr result (vec_capacity list.new ≡ vec_capacity list.old) }
 {
     if more <= list.capacity() - list.len() {

@@ -74,9 +74,18 @@ impl<A: Allocator> Sought<A> {
     pub(crate) fn note_periodic(&mut self, tasks: &Tasks<A>)
         requires none { self.old.periodic ≡ false → self.old.going ≡ [] }
         requires few { length tasks.now ≤ 2 ^ 32 }
-        requires room { self.old.periodic ≡ false → length (filter (λ k. goes_on (slice_index_or tasks.now k vacant)) (range_with_len 0 (length tasks.now))) ≤ self.old.room }
+        requires room { self.old.periodic ≡ false
+            → length
+            (filter (λ k. goes_on (slice_index_or tasks.now k vacant))
+            (range_with_len 0 (length tasks.now))) ≤ self.old.room }
         ensures again { self.old.periodic ≡ true → self.new ≡ self.old }
-        ensures first { self.old.periodic ≡ false → self.new ≡ record self.old { periodic = true; going = filter (λ k. goes_on (slice_index_or tasks.now k vacant)) (range_with_len 0 (length tasks.now)) } }
+        ensures first { self.old.periodic ≡ false
+            → self.new
+            ≡ record self.old {
+              periodic = true;
+              going = filter (λ k. goes_on (slice_index_or tasks.now k vacant))
+                  (range_with_len 0 (length tasks.now));
+            } }
     {
         if self.periodic {
             return;
@@ -96,7 +105,8 @@ impl<A: Allocator> Sought<A> {
         requires ascending { IsNonDecreasingBy (λ k. k) self.now.going }
         ensures from { IfSome result (λ task. from ≤ task) }
         ensures noted { IfSome result (λ task. is_end task self.now.going ≡ true) }
-        ensures first { IfSome result (λ task. (k : ℕ) → is_end k self.now.going ≡ true → from ≤ k → task ≤ k) }
+        ensures first { IfSome result
+            (λ task. (k : ℕ) → is_end k self.now.going ≡ true → from ≤ k → task ≤ k) }
         ensures none { IfNone result ((k : ℕ) → is_end k self.now.going ≡ true → k < from) }
     {
         let place = self

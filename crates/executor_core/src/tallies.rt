@@ -33,7 +33,8 @@ impl Tallies {
     #[inline(always)]
     pub(crate) fn run_started(self, periodic: bool) -> Tallies
         requires { (self.running < 2 ^ 63) × (one periodic ≤ self.periodic) }
-        ensures { result ≡ record self { running = self.running + 1; periodic = self.periodic - one periodic } }
+        ensures { result
+            ≡ record self { running = self.running + 1; periodic = self.periodic - one periodic } }
     {
         Tallies {
             uncancelled: self.uncancelled,
@@ -46,7 +47,8 @@ impl Tallies {
     #[inline(always)]
     pub(crate) fn run_ended(self, again: bool) -> Tallies
         requires { (1 ≤ self.running) × (self.periodic < 2 ^ 63) }
-        ensures { result ≡ record self { running = self.running - 1; periodic = self.periodic + one again } }
+        ensures { result
+            ≡ record self { running = self.running - 1; periodic = self.periodic + one again } }
     {
         Tallies {
             uncancelled: self.uncancelled,

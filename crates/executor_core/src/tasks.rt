@@ -170,7 +170,9 @@ impl<A: Allocator> Tasks<A> {
         requires known { task < length self.old }
         requires phase { (slice_index_or self.old task vacant).phase ≡ ph.Waiting }
         requires live { (slice_index_or self.old task vacant).cancelled ≡ false }
-        ensures { self.new ≡ slice_set self.old task (record (slice_index_or self.old task vacant) { phase = ph.Running }) }
+        ensures { self.new
+            ≡ slice_set self.old task
+            (record (slice_index_or self.old task vacant) { phase = ph.Running }) }
     {
         self.words[task] = self.words[task].started();
         let detail = &mut self.details[task];
@@ -184,10 +186,13 @@ impl<A: Allocator> Tasks<A> {
     pub(crate) fn finish(&mut self, task: usize, outcome: Outcome, due: u64)
         requires known { task < length self.old }
         requires phase { (slice_index_or self.old task vacant).phase ≡ ph.Running }
-        requires live { outcome ≢ o.Dropped → (slice_index_or self.old task vacant).cancelled ≡ false }
+        requires live { outcome ≢ o.Dropped
+            → (slice_index_or self.old task vacant).cancelled ≡ false }
         requires run { (slice_index_or self.old task vacant).run + 1 < 2 ^ 32 }
-        requires again { is_again outcome ≡ true → is_periodic (slice_index_or self.old task vacant).timing ≡ true }
-        ensures { self.new ≡ slice_set self.old task (end_task outcome due (slice_index_or self.old task vacant)) }
+        requires again { is_again outcome ≡ true
+            → is_periodic (slice_index_or self.old task vacant).timing ≡ true }
+        ensures { self.new
+            ≡ slice_set self.old task (end_task outcome due (slice_index_or self.old task vacant)) }
     {
         let word = self.words[task];
         self.words[task] = match outcome {
@@ -207,7 +212,9 @@ impl<A: Allocator> Tasks<A> {
     pub(crate) fn cancel(&mut self, task: usize)
         requires known { task < length self.old }
         requires live { (slice_index_or self.old task vacant).cancelled ≡ false }
-        ensures { self.new ≡ slice_set self.old task (record (slice_index_or self.old task vacant) { cancelled = true }) }
+        ensures { self.new
+            ≡ slice_set self.old task
+            (record (slice_index_or self.old task vacant) { cancelled = true }) }
     {
         let before = self.get_live(task);
         let after = Task {
@@ -221,7 +228,9 @@ impl<A: Allocator> Tasks<A> {
     /// A task is kept from now on, or is kept no more.
     pub(crate) fn keep(&mut self, task: usize, kept: bool)
         requires known { task < length self.old }
-        ensures { self.new ≡ slice_set self.old task (record (slice_index_or self.old task vacant) { kept = kept }) }
+        ensures { self.new
+            ≡ slice_set self.old task
+            (record (slice_index_or self.old task vacant) { kept = kept }) }
     {
         self.details[task].kept = kept;
     }

@@ -29,7 +29,8 @@ pub fn ends_after<A: Allocator>(
 ) -> Result<Vec<u32, A>, AllocError>
     requires orderly { IsPlanned calls.now }
     requires answered { IsAnsweredByTable calls.now workers past.now }
-    ensures { IfOk result (λ ends. ends.items ≡ (histories.answer calls.now workers past.now happening).ends) }
+    ensures { IfOk result
+        (λ ends. ends.items ≡ (histories.answer calls.now workers past.now happening).ends) }
 {
     match happening {
         Happening::Call => match call_at(calls, made(past)) {
@@ -54,7 +55,10 @@ fn ends_of_call<A: Allocator>(
 ) -> Result<Vec<u32, A>, AllocError>
     requires orderly { IsPlanned calls.now }
     requires answered { IsAnsweredBySome calls.now past.now }
-    ensures { IfOk result (λ ends. ends.items ≡ (answers.called calls.now (record (histories.view_of_history calls.now past.now) { moment = now }) call).ends) }
+    ensures { IfOk result
+        (λ ends. ends.items
+        ≡ (answers.called calls.now
+        (record (histories.view_of_history calls.now past.now) { moment = now }) call).ends) }
 {
     let (shut, stopped) = (was_shut(past), was_stopped(past));
     let policies = policies_of(past);
@@ -80,7 +84,11 @@ fn swept<A: Allocator>(
 ) -> Result<Vec<u32, A>, AllocError>
     requires orderly { IsPlanned calls.now }
     requires answered { IsAnsweredBySome calls.now past.now }
-    ensures { IfOk result (λ ends. ends.items ≡ answers.swept calls.now (record (histories.view_of_history calls.now past.now) { moment = now; stopped = stopped }) policies) }
+    ensures { IfOk result
+        (λ ends. ends.items
+        ≡ answers.swept calls.now
+        (record (histories.view_of_history calls.now past.now)
+        { moment = now; stopped = stopped }) policies) }
 {
     let mut ends = Vec::new(alloc);
     for k in 0..count_tasks(calls) {
@@ -102,7 +110,10 @@ fn is_swept<A: Allocator>(
 ) -> bool
     requires orderly { IsPlanned calls.now }
     requires answered { IsAnsweredBySome calls.now past.now }
-    ensures { result ≡ answers.is_swept calls.now (record (histories.view_of_history calls.now past.now) { moment = now; stopped = stopped }) policies k }
+    ensures { result
+        ≡ answers.is_swept calls.now
+        (record (histories.view_of_history calls.now past.now)
+        { moment = now; stopped = stopped }) policies k }
 {
     is_waiting(calls, past, k)
         && is_ended_by(

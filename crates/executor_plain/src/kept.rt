@@ -15,7 +15,9 @@ use std::alloc::Allocator;
 fn meets<A: Allocator>(calls: &[(u64, CodeCall)], past: &[Past<A>], k: u32, answer: Answer) -> bool
     requires orderly { IsPlanned calls.now }
     requires answered { IsAnsweredBySome calls.now past.now }
-    ensures { result ≡ histories.meets (histories.view_of_history calls.now past.now) (histories.due_of calls.now past.now k) k answer }
+    ensures { result
+        ≡ histories.meets (histories.view_of_history calls.now past.now)
+        (histories.due_of calls.now past.now k) k answer }
 {
     match answer {
         Answer::Idle { .. } => is_reached(calls, past, k),
@@ -37,7 +39,8 @@ fn kept_after<A: Allocator>(
     requires orderly { IsPlanned calls.now }
     requires answered { IsAnsweredBySome calls.now past.now }
     requires kept { kept ≡ histories.is_kept calls.now past.now k }
-    ensures { result ≡ histories.kept_after (histories.view_of_history calls.now past.now) k answer }
+    ensures { result
+        ≡ histories.kept_after (histories.view_of_history calls.now past.now) k answer }
 {
     if is_sweep(was_shut(past), answer) {
         return false;

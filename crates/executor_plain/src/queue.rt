@@ -33,7 +33,10 @@ fn count_queued<A: Allocator>(
     requires orderly { IsPlanned calls.now }
     requires answered { IsAnsweredBySome calls.now past.now }
     requires within { from + count ≤ most_calls_of_code }
-    ensures { result ≡ how_many (λ k. answers.is_queued ((histories.view_of_history calls.now past.now).fate k)) (range_with_len from count) }
+    ensures { result
+        ≡ how_many
+        (λ k. answers.is_queued ((histories.view_of_history calls.now past.now).fate k))
+        (range_with_len from count) }
 {
     if count == 0 {
         return 0;
@@ -54,7 +57,9 @@ fn count_running<A: Allocator>(
     count: u32,
 ) -> u32
     requires { from + count ≤ most_calls_of_code }
-    ensures { result ≡ how_many (λ k. views.is_running ((histories.view_of_history calls.now past.now).fate k)) (range_with_len from count) }
+    ensures { result
+        ≡ how_many (λ k. views.is_running ((histories.view_of_history calls.now past.now).fate k))
+        (range_with_len from count) }
 {
     if count == 0 {
         return 0;
@@ -78,7 +83,11 @@ fn is_terminated(shut: bool, queue: u32, running: u32) -> bool
 pub(crate) fn answer_ask<A: Allocator>(calls: &[(u64, CodeCall)], past: &[Past<A>]) -> Answer
     requires orderly { IsPlanned calls.now }
     requires answered { IsAnsweredBySome calls.now past.now }
-    ensures { (moment : ℕ) → result ≡ (answers.called calls.now (record (histories.view_of_history calls.now past.now) { moment = moment }) call.Ask).answer }
+    ensures { (moment : ℕ)
+        → result
+        ≡ (answers.called calls.now
+        (record (histories.view_of_history calls.now past.now) { moment = moment })
+        call.Ask).answer }
 {
     let count = count_tasks(calls);
     let queue = count_queued(calls, past, 0, count);

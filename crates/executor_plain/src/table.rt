@@ -49,7 +49,10 @@ pub fn answer_after<A: Allocator>(
 fn answer_call<A: Allocator>(calls: &[(u64, CodeCall)], past: &[Past<A>], call: CodeCall) -> Answer
     requires orderly { IsPlanned calls.now }
     requires answered { IsAnsweredBySome calls.now past.now }
-    ensures { (moment : ℕ) → result ≡ (answers.called calls.now (record (histories.view_of_history calls.now past.now) { moment = moment }) call).answer }
+    ensures { (moment : ℕ)
+        → result
+        ≡ (answers.called calls.now
+        (record (histories.view_of_history calls.now past.now) { moment = moment }) call).answer }
 {
     match call {
         CodeCall::Submit { task, timing, .. } => answer_submission(calls, past, task, timing),
@@ -77,7 +80,11 @@ fn answer_submission<A: Allocator>(
     timing: Timing,
 ) -> Answer
     requires { IsPlanned calls.now }
-    ensures { (delay : ℕ) → (moment : ℕ) → result ≡ (answers.called calls.now (record (histories.view_of_history calls.now past.now) { moment = moment }) (call.Submit task timing delay)).answer }
+    ensures { (delay : ℕ) → (moment : ℕ)
+        → result
+        ≡ (answers.called calls.now
+        (record (histories.view_of_history calls.now past.now) { moment = moment })
+        (call.Submit task timing delay)).answer }
 {
     if was_shut(past) {
         return Answer::Refuse {
@@ -95,7 +102,8 @@ fn answer_submission<A: Allocator>(
 /// The answer to a cancel from outside the plan.
 fn answer_cancel<A: Allocator>(calls: &[(u64, CodeCall)], past: &[Past<A>], task: u32) -> Answer
     requires { IsPlanned calls.now }
-    ensures { (workers : ℕ) → result ≡ (histories.answer calls.now workers past.now (happening.Cancel task)).answer }
+    ensures { (workers : ℕ)
+        → result ≡ (histories.answer calls.now workers past.now (happening.Cancel task)).answer }
 {
     if task >= count_tasks(calls) {
         return Answer::Error(EventError::NoTask);
@@ -108,7 +116,8 @@ fn answer_cancel<A: Allocator>(calls: &[(u64, CodeCall)], past: &[Past<A>], task
 
 /// The answer to a clock.
 fn answer_clock<A: Allocator>(calls: &[(u64, CodeCall)], past: &[Past<A>], moment: u64) -> Answer
-    ensures { (workers : ℕ) → result ≡ (histories.answer calls.now workers past.now (happening.Clock moment)).answer }
+    ensures { (workers : ℕ)
+        → result ≡ (histories.answer calls.now workers past.now (happening.Clock moment)).answer }
 {
     if moment < now_of(calls, past) {
         Answer::Error(EventError::Backward)
@@ -128,7 +137,8 @@ fn answer_start<A: Allocator>(
 ) -> Answer
     requires orderly { IsPlanned calls.now }
     requires answered { IsAnsweredBySome calls.now past.now }
-    ensures { result ≡ (histories.answer calls.now workers past.now (happening.Start worker)).answer }
+    ensures { result
+        ≡ (histories.answer calls.now workers past.now (happening.Start worker)).answer }
 {
     if worker >= workers {
         return Answer::Error(EventError::NoWorker);
@@ -157,7 +167,8 @@ fn answer_finish<A: Allocator>(
 ) -> Answer
     requires orderly { IsPlanned calls.now }
     requires answered { IsAnsweredBySome calls.now past.now }
-    ensures { result ≡ (histories.answer calls.now workers past.now (happening.Finish worker ending)).answer }
+    ensures { result
+        ≡ (histories.answer calls.now workers past.now (happening.Finish worker ending)).answer }
 {
     if worker >= workers {
         return Answer::Error(EventError::NoWorker);
@@ -202,7 +213,11 @@ fn outcome_in<A: Allocator>(
 ) -> Outcome
     requires orderly { IsPlanned calls.now }
     requires answered { IsAnsweredBySome calls.now past.now }
-    ensures { result ≡ answers.outcome_in (histories.was_cancelled k past.now) (answers.stops_periodic (histories.was_shut past.now) (histories.was_stopped past.now) (histories.policies_of past.now)) (terms_of calls.now k).timing (answers.due_next calls.now (histories.view_of_history calls.now past.now) k) ending }
+    ensures { result
+        ≡ answers.outcome_in (histories.was_cancelled k past.now)
+        (answers.stops_periodic (histories.was_shut past.now) (histories.was_stopped past.now)
+        (histories.policies_of past.now)) (terms_of calls.now k).timing
+        (answers.due_next calls.now (histories.view_of_history calls.now past.now) k) ending }
 {
     if was_cancelled(k, past) {
         return Outcome::Dropped;

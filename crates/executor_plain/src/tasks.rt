@@ -113,7 +113,8 @@ pub(crate) fn effect_on<A: Allocator>(
 
 /// Whether a cancel of a task would have an effect.
 fn is_live<A: Allocator>(calls: &[(u64, CodeCall)], past: &[Past<A>], k: u32) -> bool
-    ensures { result ≡ views.is_cancellable ((histories.view_of_history calls.now past.now).fate k) }
+    ensures { result
+        ≡ views.is_cancellable ((histories.view_of_history calls.now past.now).fate k) }
 {
     is_waiting(calls, past, k) || (is_running(calls, past, k) && !was_cancelled(k, past))
 }
@@ -131,7 +132,9 @@ fn is_enabled<A: Allocator>(calls: &[(u64, CodeCall)], past: &[Past<A>], k: u32)
 pub(crate) fn is_reached<A: Allocator>(calls: &[(u64, CodeCall)], past: &[Past<A>], k: u32) -> bool
     requires orderly { IsPlanned calls.now }
     requires answered { IsAnsweredBySome calls.now past.now }
-    ensures { result ≡ nat_le (histories.due_of calls.now past.now k) (histories.now_of calls.now (histories.happenings past.now)) }
+    ensures { result
+        ≡ nat_le (histories.due_of calls.now past.now k)
+        (histories.now_of calls.now (histories.happenings past.now)) }
 {
     due_of(calls, past, k) <= now_of(calls, past)
 }
@@ -179,7 +182,9 @@ pub(crate) fn first_enabled<A: Allocator>(
     requires orderly { IsPlanned calls.now }
     requires answered { IsAnsweredBySome calls.now past.now }
     requires within { from + count ≤ most_calls_of_code }
-    ensures { result ≡ views.first_enabled (histories.view_of_history calls.now past.now) (range_with_len from count) }
+    ensures { result
+        ≡ views.first_enabled (histories.view_of_history calls.now past.now)
+        (range_with_len from count) }
 {
     if count == 0 {
         return None;

@@ -23,7 +23,9 @@ pub fn trace<A: Allocator + Copy>(
     events: &[Event],
 ) -> Result<Vec<Line, A>, AllocError>
     requires { IsPlanned calls.now }
-    ensures { IfOk result (λ lines. lines.items ≡ flows.lines_of calls.now (flows.history_of calls.now workers (reverse events.now))) }
+    ensures { IfOk result
+        (λ lines. lines.items
+        ≡ flows.lines_of calls.now (flows.history_of calls.now workers (reverse events.now))) }
 {
     let past = history_of(alloc, calls, workers, events)?;
     lines_of(alloc, calls, &past)
@@ -41,7 +43,10 @@ pub fn trace_of_happenings<A: Allocator + Copy>(
     happenings: &[Happening],
 ) -> Result<Vec<Line, A>, AllocError>
     requires { IsPlanned calls.now }
-    ensures { IfOk result (λ lines. lines.items ≡ flows.lines_of calls.now (flows.history_from calls.now workers [] (reverse happenings.now))) }
+    ensures { IfOk result
+        (λ lines. lines.items
+        ≡ flows.lines_of calls.now
+        (flows.history_from calls.now workers [] (reverse happenings.now))) }
 {
     let past = happened(alloc, calls, workers, happenings)?;
     lines_of(alloc, calls, &past)
@@ -112,7 +117,8 @@ fn happen<A: Allocator + Copy>(
 ) -> Result<(), AllocError>
     requires orderly { IsPlanned calls.now }
     requires answered { IsAnsweredByTable calls.now workers past.old.items }
-    ensures { OnOk result (past.new.items ≡ flows.history_from calls.now workers past.old.items (happening ∷ [])) }
+    ensures { OnOk result
+        (past.new.items ≡ flows.history_from calls.now workers past.old.items (happening ∷ [])) }
 {
     let answer = answer_after(calls, workers, past, happening);
     let ends = ends_after(alloc, calls, workers, past, happening)?;
@@ -135,7 +141,9 @@ fn make_calls<A: Allocator + Copy>(
 ) -> Result<(), AllocError>
     requires orderly { IsPlanned calls.now }
     requires answered { IsAnsweredByTable calls.now workers past.old.items }
-    ensures { OnOk result (past.new.items ≡ flows.history_from calls.now workers past.old.items (replicate count happening.Call)) }
+    ensures { OnOk result
+        (past.new.items
+        ≡ flows.history_from calls.now workers past.old.items (replicate count happening.Call)) }
 {
     for _made in 0..count {
         happen(alloc, calls, workers, past, Happening::Call)?;
@@ -153,8 +161,11 @@ fn take_event<A: Allocator + Copy>(
 ) -> Result<(), AllocError>
     requires orderly { IsPlanned calls.now }
     requires answered { IsAnsweredByTable calls.now workers past.old.items }
-    ensures { OnOk result (past.new.items ≡ flows.history_from calls.now workers past.old.items
-        (flows.part_of calls.now (histories.made (histories.happenings past.old.items)) (histories.now_of calls.now (histories.happenings past.old.items)) event)) }
+    ensures { OnOk result
+        (past.new.items
+        ≡ flows.history_from calls.now workers past.old.items
+        (flows.part_of calls.now (histories.made (histories.happenings past.old.items))
+        (histories.now_of calls.now (histories.happenings past.old.items)) event)) }
 {
     let count = calls_before(calls, made(past), now_of(calls, past), event);
     make_calls(alloc, calls, workers, past, count)?;
@@ -169,7 +180,8 @@ fn history_of<A: Allocator + Copy>(
     events: &[Event],
 ) -> Result<Vec<Past<A>, A>, AllocError>
     requires { IsPlanned calls.now }
-    ensures { IfOk result (λ past. past.items ≡ flows.history_of calls.now workers (reverse events.now)) }
+    ensures { IfOk result
+        (λ past. past.items ≡ flows.history_of calls.now workers (reverse events.now)) }
 {
     let mut past = Vec::new(alloc);
     for event in events {
@@ -186,7 +198,8 @@ fn happened<A: Allocator + Copy>(
     happenings: &[Happening],
 ) -> Result<Vec<Past<A>, A>, AllocError>
     requires { IsPlanned calls.now }
-    ensures { IfOk result (λ past. past.items ≡ flows.history_from calls.now workers [] (reverse happenings.now)) }
+    ensures { IfOk result
+        (λ past. past.items ≡ flows.history_from calls.now workers [] (reverse happenings.now)) }
 {
     let mut past = Vec::new(alloc);
     for happening in happenings {
@@ -219,7 +232,8 @@ fn add_lines<A: Allocator>(
     moment: u64,
     entry: &Past<A>,
 ) -> Result<(), AllocError>
-    ensures { OnOk result (lines.new.items ≡ lines.old.items ++ flows.lines_at moment (flows.reply_in entry.now)) }
+    ensures { OnOk result
+        (lines.new.items ≡ lines.old.items ++ flows.lines_at moment (flows.reply_in entry.now)) }
 {
     lines.push(Line::new(moment, Message::Answer(entry.answer)))?;
     for task in &entry.ends {

@@ -58,8 +58,10 @@ impl LineCopy {
         ensures lines { IsTrue result → self.new.lines ≡ self.old.lines + 1 }
         ensures bytes { self.new.bytes ≤ length out.new }
         // Of whatever lines the buffer has the first, it has one more of them, where this line is the next.
-        ensures first { IsTrue result → (all : List Line) (before : List ℕ) → HoldsFirst all before out.old self.old
-            → slice_get all self.old.lines ≡ Some line.now → HoldsFirst all before out.new self.new }
+        ensures first { IsTrue result → (all : List Line) (before : List ℕ)
+            → HoldsFirst all before out.old self.old
+            → slice_get all self.old.lines ≡ Some line.now
+            → HoldsFirst all before out.new self.new }
     {
         if out.len() - self.copied.bytes < LINE_ROOM {
             return false;

@@ -127,7 +127,9 @@ fn words_fault(line: &[u8]) -> LineFault<'_>
 
 /// Why a word is no number, where it would be one. Behind a number a unit would be.
 fn word_fault(word: &[u8], is_behind_number: bool) -> Option<NumberFault>
-    ensures { MatchOption result ((why : NumberFault) → ¬ (IsWordFault (IsTrue is_behind_number) word.now why)) (IsWordFault (IsTrue is_behind_number) word.now) }
+    ensures { MatchOption result
+        ((why : NumberFault) → ¬ (IsWordFault (IsTrue is_behind_number) word.now why))
+        (IsWordFault (IsTrue is_behind_number) word.now) }
 {
     if is_behind_number && is_unit(word) {
         return Some(NumberFault::Unit);

@@ -90,7 +90,8 @@ fn count_digits(word: &[u8]) -> usize
 /// The value of a word that is digits alone, where it is below 2^64.
 fn value_of(word: &[u8]) -> Option<u64>
     requires { IsNumeral 10 word.now }
-    ensures { MatchOption result (2 ^ 64 ≤ digits_value 10 word.now) (λ value. value ≡ digits_value 10 word.now) }
+    ensures { MatchOption result (2 ^ 64 ≤ digits_value 10 word.now)
+        (λ value. value ≡ digits_value 10 word.now) }
 {
     let text = std::str::from_utf8(word).ok()?;
     text.parse::<u64>().ok()

@@ -69,7 +69,8 @@ impl<A: Allocator> ScheduledExecutor<A> {
     /// call would be above 2^62: nothing has changed then.
     pub fn cancel_by_call(&mut self, at: u64, task: TaskRef) -> Result<CancelEffect, CallError>
         ensures stays { OnOk result (StaysQuiet self.old self.new self.old.count) }
-        ensures made { IfOk result (λ effect. CancelsByCall self.old self.new at task.number effect) }
+        ensures made { IfOk result
+            (λ effect. CancelsByCall self.old self.new at task.number effect) }
         ensures refused { OnErr result (self.new ≡ self.old) }
         ensures failed { IfErr result (λ error. IsCancelError self.old at task.number error) }
     {
@@ -155,7 +156,9 @@ impl<A: Allocator> ScheduledExecutor<A> {
     fn cancel_none(&mut self)
         ensures is { self.new ≡ quiet self.old self.old.table }
         ensures stays { StaysQuiet self.old self.new self.old.count }
-        ensures happens { (k : ℕ) → never ≤ k → Happens self.old self.new (happening.Cancel k) (bare (answer.Error event_error.NoTask)) }
+        ensures happens { (k : ℕ) → never ≤ k
+            → Happens self.old self.new (happening.Cancel k)
+            (bare (answer.Error event_error.NoTask)) }
     {
         self.ended.clear();
     }
@@ -165,7 +168,8 @@ impl<A: Allocator> ScheduledExecutor<A> {
         requires given { number < self.old.count }
         requires gone { IsNew self.old.table.slots number }
         ensures stays { StaysQuiet self.old self.new self.old.count }
-        ensures happens { Happens self.old self.new (happening.Cancel number) (bare (answer.Outside number result)) }
+        ensures happens { Happens self.old self.new (happening.Cancel number)
+            (bare (answer.Outside number result)) }
         ensures held { IsHeldAlive self.new.table number }
         ensures ended { self.new.ended ≡ [] }
     {
@@ -179,7 +183,8 @@ impl<A: Allocator> ScheduledExecutor<A> {
         requires given { number < self.old.count }
         requires held { IsSlotOf self.old.table.slots number (Some slot) }
         ensures stays { StaysQuiet self.old self.new self.old.count }
-        ensures happens { Happens self.old self.new (happening.Cancel number) (bare (answer.Outside number result)) }
+        ensures happens { Happens self.old self.new (happening.Cancel number)
+            (bare (answer.Outside number result)) }
         ensures held { IsHeldAlive self.new.table number }
         ensures ended { self.new.ended ≡ [] }
     {
@@ -197,7 +202,8 @@ impl<A: Allocator> ScheduledExecutor<A> {
         requires ahead { self.old.table.moment ≤ moment }
         requires limit { moment ≤ longest }
         ensures stays { StaysQuiet self.old self.new self.old.count }
-        ensures makes { Calls self.old self.new (moment, call.Cancel number) (bare (answer.Cancel number result)) }
+        ensures makes { Calls self.old self.new (moment, call.Cancel number)
+            (bare (answer.Cancel number result)) }
         ensures held { IsHeldAlive self.new.table number }
         ensures ended { self.new.ended ≡ [] }
     {
@@ -214,7 +220,8 @@ impl<A: Allocator> ScheduledExecutor<A> {
         requires ahead { self.old.table.moment ≤ moment }
         requires limit { moment ≤ longest }
         ensures stays { StaysQuiet self.old self.new self.old.count }
-        ensures makes { Calls self.old self.new (moment, call.Cancel number) (bare (answer.Cancel number result)) }
+        ensures makes { Calls self.old self.new (moment, call.Cancel number)
+            (bare (answer.Cancel number result)) }
         ensures held { IsHeldAlive self.new.table number }
         ensures ended { self.new.ended ≡ [] }
     {

@@ -28,7 +28,8 @@ impl<A: Allocator> ScheduledExecutor<A> {
     #[inline(always)]
     pub fn clock(&mut self, moment: u64) -> Result<(), EventError>
         ensures accepted { IsOk result ↔ (is_accepted self.old.table.moment moment ≡ true) }
-        ensures happens { IfOk result (λ _. Happens self.old self.new (happening.Clock moment) (bare answer.Clock)) }
+        ensures happens { IfOk result
+            (λ _. Happens self.old self.new (happening.Clock moment) (bare answer.Clock)) }
         ensures moment { IfOk result (λ _. self.new.table.moment ≡ moment) }
         ensures earliest { IfOk result (λ _. self.new.earliest ≡ moment + 1) }
         ensures workers { IfOk result (λ _. workers_of self.new.table ≡ workers_of self.old.table) }
@@ -36,7 +37,9 @@ impl<A: Allocator> ScheduledExecutor<A> {
         ensures slots { self.new.table.slots ≡ self.old.table.slots }
         ensures work { self.new.table.work ≡ self.old.table.work }
         ensures ended { self.new.ended ≡ [] }
-        ensures failed { IfErr result (λ error. IsClockError self.old.table moment error × events.Fails self.old self.new (happening.Clock moment) error) }
+        ensures failed { IfErr result
+            (λ error. IsClockError self.old.table moment error
+            × events.Fails self.old self.new (happening.Clock moment) error) }
     {
         self.ended.clear();
         match self.table.clock(moment) {
@@ -60,9 +63,12 @@ impl<A: Allocator> ScheduledExecutor<A> {
     /// task that is due has had 2^64 - 1 runs: nothing has happened then, and nothing has changed.
     #[inline(always)]
     pub fn start(&mut self, worker: u8) -> Result<Option<Begun>, StartError>
-        ensures happens { IfOk result (λ begun. Happens self.old self.new (happening.Start worker) (events.start_reply worker begun)) }
+        ensures happens { IfOk result
+            (λ begun. Happens self.old self.new (happening.Start worker)
+            (events.start_reply worker begun)) }
         ensures stays { OnOk result (Stays self.old self.new self.old.count) }
-        ensures runs { IfOk result (λ begun. IfSome begun (λ b. events.IsRunBy self.new.table worker b.task)) }
+        ensures runs { IfOk result
+            (λ begun. IfSome begun (λ b. events.IsRunBy self.new.table worker b.task)) }
         ensures numbered { IfOk result (λ begun. IfSome begun (λ b. b.run < events.run_limit)) }
         ensures given { IfOk result (λ begun. IfSome begun (λ b. b.task.number < self.old.count)) }
         ensures ended { IfOk result (λ _. self.new.ended ≡ []) }
@@ -88,13 +94,17 @@ impl<A: Allocator> ScheduledExecutor<A> {
     /// The finish has happened then, and the executor is as it was, but that [`ended`](ScheduledExecutor::ended) is empty.
     #[inline(always)]
     pub fn finish(&mut self, worker: u8, ending: Ending) -> Result<Ended, EventError>
-        ensures happens { IfOk result (λ e. Happens self.old self.new (happening.Finish worker ending) (events.finish_reply worker e)) }
+        ensures happens { IfOk result
+            (λ e. Happens self.old self.new (happening.Finish worker ending)
+            (events.finish_reply worker e)) }
         ensures stays { OnOk result (Stays self.old self.new self.old.count) }
         ensures ran { IfOk result (λ e. events.IsRunBy self.old.table worker e.task) }
         ensures given { IfOk result (λ e. e.task.number < self.old.count) }
         ensures left { IfOk result (λ e. events.IsLeftThere self.new.table e.outcome e.task) }
         ensures ended { self.new.ended ≡ [] }
-        ensures failed { IfErr result (λ error. IsFinishError self.old.table worker error × events.Fails self.old self.new (happening.Finish worker ending) error) }
+        ensures failed { IfErr result
+            (λ error. IsFinishError self.old.table worker error
+            × events.Fails self.old self.new (happening.Finish worker ending) error) }
     {
         self.ended.clear();
         end_run(&mut self.table, &mut self.notes, worker, ending)

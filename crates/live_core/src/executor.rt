@@ -122,7 +122,8 @@ impl<A: Allocator> ScheduledExecutor<A> {
 
     /// Whether a slot holds a task that waits for a run.
     fn waits_in(&self, slot: u32) -> bool
-        ensures { result ≡ option_map_or (λ x. waits (task_in x)) (slot_of self.now.table.slots slot) false }
+        ensures { result
+            ≡ option_map_or (λ x. waits (task_in x)) (slot_of self.now.table.slots slot) false }
     {
         match self.table.seat(slot) {
             Some(seat) => !seat.cancelled && matches!(seat.phase, Stage::Waiting),

@@ -63,7 +63,9 @@ impl<A: Allocator> NumberIndex<A> {
     #[cold]
     #[inline(never)]
     pub(crate) fn compact<B: Allocator>(&mut self, table: &TaskTable<B>)
-        ensures left { self.new ≡ record self.old { entries = filter (is_held (held_numbers table.now.slots)) self.old.entries } }
+        ensures left { self.new
+            ≡ record self.old
+            { entries = filter (is_held (held_numbers table.now.slots)) self.old.entries } }
         ensures few { length self.new.entries ≤ tasks_in table.now.slots }
     {
         let kept = keep_held(&mut self.entries, table.seats());
@@ -72,8 +74,10 @@ impl<A: Allocator> NumberIndex<A> {
 
     /// Drops the entries that are stale for this table, where there is no room for one more.
     pub(crate) fn tidy<B: Allocator>(&mut self, table: &TaskTable<B>)
-        ensures index { (count : ℕ) → IsIndex (held_numbers table.now.slots) self.old.entries count → IsIndex (held_numbers table.now.slots) self.new.entries count }
-        ensures room { tasks_in table.now.slots < self.old.room → length self.new.entries < self.new.room }
+        ensures index { (count : ℕ) → IsIndex (held_numbers table.now.slots) self.old.entries count
+            → IsIndex (held_numbers table.now.slots) self.new.entries count }
+        ensures room { tasks_in table.now.slots < self.old.room
+            → length self.new.entries < self.new.room }
         ensures same { self.new.room ≡ self.old.room }
     {
         if self.is_full() {
@@ -106,7 +110,8 @@ impl<A: Allocator> NumberIndex<A> {
     pub(crate) fn add(&mut self, task: TaskRef)
         requires above { IsBelow self.old.entries (length self.old.entries) task.number }
         requires room { length self.old.entries < self.old.room }
-        ensures { self.new ≡ record { entries = self.old.entries ++ task ∷ []; room = self.old.room } }
+        ensures { self.new
+            ≡ record { entries = self.old.entries ++ task ∷ []; room = self.old.room } }
     {
         self.entries.push_reserved(task);
     }

@@ -25,7 +25,9 @@ impl<A: Allocator> ScheduledExecutor<A> {
         answer: Answer,
         lines: &mut Vec<Line, B>,
     ) -> Result<(), LinesError>
-        ensures added { OnOk result (lines.new.items ≡ lines.old.items ++ lines_at self.now.table.moment (ending answer self.now.ended)) }
+        ensures added { OnOk result
+            (lines.new.items
+            ≡ lines.old.items ++ lines_at self.now.table.moment (ending answer self.now.ended)) }
         ensures spelled { OnOk result (lined.are_spelled self.now.ended ≡ true) }
         ensures refused { OnErr result (lines.new.items ≡ lines.old.items) }
         ensures failed { IfErr result (λ error. lined.IsLinesError self.now.ended error) }

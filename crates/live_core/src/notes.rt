@@ -86,8 +86,10 @@ impl<A: Allocator> Notes<A> {
     /// Drops the entries of the index that are stale for this table's slots, where there is no room for one more. Then there is, where
     /// not every slot that there is room to note holds a task.
     pub(crate) fn tidy_index<B: Allocator>(&mut self, table: &TaskTable<B>)
-        ensures index { (count : ℕ) → IsIndex (held_numbers table.now.slots) self.old.entries count → IsIndex (held_numbers table.now.slots) self.new.entries count }
-        ensures room { tasks_in table.now.slots < self.old.slot_room → length self.new.entries < self.new.index_room }
+        ensures index { (count : ℕ) → IsIndex (held_numbers table.now.slots) self.old.entries count
+            → IsIndex (held_numbers table.now.slots) self.new.entries count }
+        ensures room { tasks_in table.now.slots < self.old.slot_room
+            → length self.new.entries < self.new.index_room }
         ensures rest { self.new ≡ record self.old { entries = self.new.entries } }
     {
         self.index.tidy(table);
@@ -113,7 +115,8 @@ impl<A: Allocator> Notes<A> {
     pub(crate) fn add_empty(&mut self, from: u32, to: u32)
         requires order { from ≤ to }
         requires room { length self.old.free + (to - from) ≤ self.old.slot_room }
-        ensures { self.new ≡ record self.old { free = self.old.free ++ range_with_len from (to - from) } }
+        ensures { self.new
+            ≡ record self.old { free = self.old.free ++ range_with_len from (to - from) } }
     {
         let mut slot = from;
         while slot < to {

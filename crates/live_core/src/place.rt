@@ -35,7 +35,8 @@ pub(crate) fn place<A: Allocator>(
     timing: Timing,
     delay: u64,
 ) -> Placed
-    requires noted { AreNoted table.old.slots count notes.old.free notes.old.entries notes.old.slot_room (vec_capacity ended.old) }
+    requires noted { AreNoted table.old.slots count notes.old.free notes.old.entries
+        notes.old.slot_room (vec_capacity ended.old) }
     requires slot { 0 < length notes.old.free }
     requires entry { length notes.old.entries < notes.old.index_room }
     requires unshut { table.old.shut ≡ false }
@@ -44,7 +45,8 @@ pub(crate) fn place<A: Allocator>(
     requires spans { (delay ≤ longest) × IsTimed timing }
     ensures number { result.task.number ≡ count }
     ensures seated { is_waiting_there table.new result.task ≡ true }
-    ensures noted { AreNoted table.new.slots (count + 1) notes.new.free notes.new.entries notes.new.slot_room (vec_capacity ended.new) }
+    ensures noted { AreNoted table.new.slots (count + 1) notes.new.free notes.new.entries
+        notes.new.slot_room (vec_capacity ended.new) }
     ensures alive { AreAlive table.old.slots → AreAlive table.new.slots }
     ensures leaves { LeavesBelow count table.old.slots table.new.slots }
     ensures workers { workers_of table.new ≡ workers_of table.old }
@@ -52,7 +54,8 @@ pub(crate) fn place<A: Allocator>(
     ensures ended { ended.new.items ≡ [] }
     ensures slots { length table.new.slots ≡ length table.old.slots }
     ensures tasks { tasks_in table.new.slots ≡ tasks_in table.old.slots + 1 }
-    ensures steps { CallSteps table.old table.new (at, call.Submit count timing delay) (bare (answer.Submit count (kind_of timing) result.due)) }
+    ensures steps { CallSteps table.old table.new (at, call.Submit count timing delay)
+        (bare (answer.Submit count (kind_of timing) result.due)) }
 {
     let Some(slot) = notes.take() else {
         unreachable!();

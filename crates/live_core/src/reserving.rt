@@ -19,8 +19,10 @@ impl<A: Allocator> ScheduledExecutor<A> {
     ///
     /// [`CallError::Memory`] where memory is refused: nothing has changed then.
     pub fn reserve(&mut self, tasks: u32) -> Result<(), CallError>
-        ensures made { OnOk result (self.new ≡ record self.old { table = grown self.old.table tasks }) }
-        ensures stands { (calls : List Planned) (past : List HistoryEntry) → Stands self.old calls past → Stands self.new calls past }
+        ensures made { OnOk result
+            (self.new ≡ record self.old { table = grown self.old.table tasks }) }
+        ensures stands { (calls : List Planned) (past : List HistoryEntry)
+            → Stands self.old calls past → Stands self.new calls past }
         ensures roomy { tasks ≤ length self.old.table.slots → IsOk result }
         ensures refused { OnErr result (self.new ≡ self.old) }
         ensures failed { IfErr result (λ error. error ≡ call_error.Memory) }

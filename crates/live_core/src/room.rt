@@ -22,8 +22,10 @@ pub(crate) fn make_room<A: Allocator>(
     ended: &mut Vec<TaskRef, A>,
     count: u64,
 ) -> Result<(), AllocError>
-    requires noted { AreNoted table.old.slots count notes.old.free notes.old.entries notes.old.slot_room (vec_capacity ended.old) }
-    ensures noted { AreNoted table.new.slots count notes.new.free notes.new.entries notes.new.slot_room (vec_capacity ended.new) }
+    requires noted { AreNoted table.old.slots count notes.old.free notes.old.entries
+        notes.old.slot_room (vec_capacity ended.old) }
+    ensures noted { AreNoted table.new.slots count notes.new.free notes.new.entries
+        notes.new.slot_room (vec_capacity ended.new) }
     ensures alive { AreAlive table.old.slots → AreAlive table.new.slots }
     ensures roomier { IsRoomier table.old table.new }
     ensures leaves { LeavesNumbers table.old.slots table.new.slots }
@@ -47,8 +49,10 @@ fn make_slot<A: Allocator>(
     ended: &mut Vec<TaskRef, A>,
     count: u64,
 ) -> Result<(), AllocError>
-    requires noted { AreNoted table.old.slots count notes.old.free notes.old.entries notes.old.slot_room (vec_capacity ended.old) }
-    ensures noted { AreNoted table.new.slots count notes.new.free notes.new.entries notes.new.slot_room (vec_capacity ended.new) }
+    requires noted { AreNoted table.old.slots count notes.old.free notes.old.entries
+        notes.old.slot_room (vec_capacity ended.old) }
+    ensures noted { AreNoted table.new.slots count notes.new.free notes.new.entries
+        notes.new.slot_room (vec_capacity ended.new) }
     ensures alive { AreAlive table.old.slots → AreAlive table.new.slots }
     ensures roomier { IsRoomier table.old table.new }
     ensures leaves { LeavesNumbers table.old.slots table.new.slots }
@@ -78,9 +82,11 @@ pub(crate) fn grow<A: Allocator>(
     count: u64,
     slots: u32,
 ) -> Result<(), AllocError>
-    requires noted { AreNoted table.old.slots count notes.old.free notes.old.entries notes.old.slot_room (vec_capacity ended.old) }
+    requires noted { AreNoted table.old.slots count notes.old.free notes.old.entries
+        notes.old.slot_room (vec_capacity ended.old) }
     requires more { length table.old.slots < slots }
-    ensures noted { AreNoted table.new.slots count notes.new.free notes.new.entries notes.new.slot_room (vec_capacity ended.new) }
+    ensures noted { AreNoted table.new.slots count notes.new.free notes.new.entries
+        notes.new.slot_room (vec_capacity ended.new) }
     ensures alive { AreAlive table.old.slots → AreAlive table.new.slots }
     ensures roomier { IsRoomier table.old table.new }
     ensures leaves { LeavesNumbers table.old.slots table.new.slots }

@@ -28,17 +28,24 @@ pub(crate) fn begin_run<A: Allocator>(
     notes: &mut Notes<A>,
     worker: u8,
 ) -> Option<Begun>
-    requires noted { (count : ℕ) × (ended_room : ℕ) × AreNoted table.old.slots count notes.old.free notes.old.entries notes.old.slot_room ended_room }
+    requires noted { (count : ℕ) × (ended_room : ℕ)
+        × AreNoted table.old.slots count notes.old.free notes.old.entries notes.old.slot_room
+        ended_room }
     requires free { IsFree table.old worker }
     requires fresh { IsFull table.old → ⊥ }
-    ensures noted { (count ended_room : ℕ) → AreNoted table.old.slots count notes.old.free notes.old.entries notes.old.slot_room ended_room → AreNoted table.new.slots count notes.new.free notes.new.entries notes.new.slot_room ended_room }
+    ensures noted { (count ended_room : ℕ)
+        → AreNoted table.old.slots count notes.old.free notes.old.entries notes.old.slot_room
+        ended_room
+        → AreNoted table.new.slots count notes.new.free notes.new.entries notes.new.slot_room
+        ended_room }
     ensures alive { AreAlive table.old.slots → AreAlive table.new.slots }
     ensures leaves { LeavesSlots table.old.slots table.new.slots }
     ensures workers { workers_of table.new ≡ workers_of table.old }
     ensures shut { table.new.shut ≡ table.old.shut }
     ensures runs { IfSome result (λ b. IsRunBy table.new worker b.task) }
     ensures numbered { IfSome result (λ b. b.run < run_limit) }
-    ensures steps { EventSteps table.old table.new (happening.Start worker) (start_reply worker result) }
+    ensures steps { EventSteps table.old table.new (happening.Start worker)
+        (start_reply worker result) }
 {
     drop_met(table, notes);
     match table.start(worker) {
@@ -50,8 +57,14 @@ pub(crate) fn begin_run<A: Allocator>(
 /// Drops the kept tasks that the next start meets, if it is not refused, and empties their slots.
 #[inline(always)]
 fn drop_met<A: Allocator>(table: &mut TaskTable<A>, notes: &mut Notes<A>)
-    requires noted { (count : ℕ) × (ended_room : ℕ) × AreNoted table.old.slots count notes.old.free notes.old.entries notes.old.slot_room ended_room }
-    ensures noted { (count ended_room : ℕ) → AreNoted table.old.slots count notes.old.free notes.old.entries notes.old.slot_room ended_room → AreNoted table.new.slots count notes.new.free notes.new.entries notes.new.slot_room ended_room }
+    requires noted { (count : ℕ) × (ended_room : ℕ)
+        × AreNoted table.old.slots count notes.old.free notes.old.entries notes.old.slot_room
+        ended_room }
+    ensures noted { (count ended_room : ℕ)
+        → AreNoted table.old.slots count notes.old.free notes.old.entries notes.old.slot_room
+        ended_room
+        → AreNoted table.new.slots count notes.new.free notes.new.entries notes.new.slot_room
+        ended_room }
     ensures alive { AreAlive table.old.slots → AreAlive table.new.slots }
     ensures leaves { LeavesSlots table.old.slots table.new.slots }
     ensures sheds { Sheds table.old table.new }
@@ -70,15 +83,23 @@ pub(crate) fn end_run<A: Allocator>(
     worker: u8,
     ending: Ending,
 ) -> Result<Ended, EventError>
-    requires noted { (count : ℕ) × (ended_room : ℕ) × AreNoted table.old.slots count notes.old.free notes.old.entries notes.old.slot_room ended_room }
-    ensures noted { (count ended_room : ℕ) → AreNoted table.old.slots count notes.old.free notes.old.entries notes.old.slot_room ended_room → AreNoted table.new.slots count notes.new.free notes.new.entries notes.new.slot_room ended_room }
+    requires noted { (count : ℕ) × (ended_room : ℕ)
+        × AreNoted table.old.slots count notes.old.free notes.old.entries notes.old.slot_room
+        ended_room }
+    ensures noted { (count ended_room : ℕ)
+        → AreNoted table.old.slots count notes.old.free notes.old.entries notes.old.slot_room
+        ended_room
+        → AreNoted table.new.slots count notes.new.free notes.new.entries notes.new.slot_room
+        ended_room }
     ensures alive { AreAlive table.old.slots → AreAlive table.new.slots }
     ensures leaves { LeavesSlots table.old.slots table.new.slots }
     ensures workers { workers_of table.new ≡ workers_of table.old }
     ensures shut { table.new.shut ≡ table.old.shut }
     ensures ran { IfOk result (λ ended. IsRunBy table.old worker ended.task) }
     ensures left { IfOk result (λ ended. IsLeftThere table.new ended.outcome ended.task) }
-    ensures steps { IfOk result (λ ended. EventSteps table.old table.new (happening.Finish worker ending) (finish_reply worker ended)) }
+    ensures steps { IfOk result
+        (λ ended. EventSteps table.old table.new (happening.Finish worker ending)
+        (finish_reply worker ended)) }
     ensures unchanged { OnErr result (table.new ≡ table.old) }
     ensures failed { IfErr result (λ error. FailsFinish table.old worker ending error) }
 {
@@ -94,12 +115,20 @@ pub(crate) fn end_run<A: Allocator>(
 /// Empties the slot of a task whose run ended so, if no run comes after it.
 #[inline(always)]
 fn release_left<A: Allocator>(table: &mut TaskTable<A>, notes: &mut Notes<A>, ended: Ended)
-    requires noted { (count : ℕ) × (ended_room : ℕ) × AreNoted table.old.slots count notes.old.free notes.old.entries notes.old.slot_room ended_room }
-    requires left { (x : seats.Seat) × (slot_of table.old.slots ended.task.slot ≡ Some x) × IsLeft ended.outcome x }
-    ensures noted { (count ended_room : ℕ) → AreNoted table.old.slots count notes.old.free notes.old.entries notes.old.slot_room ended_room → AreNoted table.new.slots count notes.new.free notes.new.entries notes.new.slot_room ended_room }
+    requires noted { (count : ℕ) × (ended_room : ℕ)
+        × AreNoted table.old.slots count notes.old.free notes.old.entries notes.old.slot_room
+        ended_room }
+    requires left { (x : seats.Seat) × (slot_of table.old.slots ended.task.slot ≡ Some x)
+        × IsLeft ended.outcome x }
+    ensures noted { (count ended_room : ℕ)
+        → AreNoted table.old.slots count notes.old.free notes.old.entries notes.old.slot_room
+        ended_room
+        → AreNoted table.new.slots count notes.new.free notes.new.entries notes.new.slot_room
+        ended_room }
     ensures slots { table.new ≡ released ended.outcome table.old ended.task.slot }
     ensures leaves { LeavesSlots table.old.slots table.new.slots }
-    ensures stands { (calls : List Planned) (past : List HistoryEntry) → Stands table.old calls past → Stands table.new calls past }
+    ensures stands { (calls : List Planned) (past : List HistoryEntry) → Stands table.old calls past
+        → Stands table.new calls past }
 {
     match ended.outcome {
         Outcome::Again(_) => {}

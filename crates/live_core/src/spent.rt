@@ -15,9 +15,16 @@ use task_table::{Seat, TaskTable};
 /// Empties a slot where nothing may come of its task any more, and notes that it is empty.
 #[inline(always)]
 pub(crate) fn release_spent<A: Allocator>(table: &mut TaskTable<A>, notes: &mut Notes<A>, slot: u32)
-    requires { (count : ℕ) × (ended_room : ℕ) × AreNoted table.old.slots count notes.old.free notes.old.entries notes.old.slot_room ended_room }
-    ensures noted { (count ended_room : ℕ) → AreNoted table.old.slots count notes.old.free notes.old.entries notes.old.slot_room ended_room → AreNoted table.new.slots count notes.new.free notes.new.entries notes.new.slot_room ended_room }
-    ensures alive { (number : ℕ) → IsSlotOf table.old.slots number (Some slot) → IsHeldAlive table.new number }
+    requires { (count : ℕ) × (ended_room : ℕ)
+        × AreNoted table.old.slots count notes.old.free notes.old.entries notes.old.slot_room
+        ended_room }
+    ensures noted { (count ended_room : ℕ)
+        → AreNoted table.old.slots count notes.old.free notes.old.entries notes.old.slot_room
+        ended_room
+        → AreNoted table.new.slots count notes.new.free notes.new.entries notes.new.slot_room
+        ended_room }
+    ensures alive { (number : ℕ) → IsSlotOf table.old.slots number (Some slot)
+        → IsHeldAlive table.new number }
     ensures all { AreAliveBut slot table.old.slots → AreAlive table.new.slots }
     ensures stands { IsRoomier table.old table.new }
     ensures leaves { LeavesSlots table.old.slots table.new.slots }

@@ -27,7 +27,8 @@ impl<A: Allocator> ScheduledExecutor<A> {
         ensures made { IfOk result (λ s. Submits self.old self.new at timings.Once delay s) }
         ensures stays { OnOk result (StaysQuiet self.old self.new (self.old.count + 1)) }
         ensures refused { OnErr result (self.new ≡ self.old) }
-        ensures failed { IfErr result (λ error. IsSubmitError self.old at timings.Once delay error) }
+        ensures failed { IfErr result
+            (λ error. IsSubmitError self.old at timings.Once delay error) }
     {
         self.submit(at, Timing::Once, delay)
     }
@@ -50,11 +51,13 @@ impl<A: Allocator> ScheduledExecutor<A> {
     /// [`CallError::Illegal`] where the period is 0; else as [`schedule`](ScheduledExecutor::schedule), where no span may be
     /// above 2^62.
     pub fn at_rate(&mut self, at: u64, first: u64, period: u64) -> Result<Submitted, CallError>
-        ensures made { IfOk result (λ s. Submits self.old self.new at (timings.Rate period) first s) }
+        ensures made { IfOk result
+            (λ s. Submits self.old self.new at (timings.Rate period) first s) }
         ensures stays { OnOk result (StaysQuiet self.old self.new (self.old.count + 1)) }
         ensures refused { OnErr result (self.new ≡ self.old) }
         ensures legal { OnOk result (0 < period) }
-        ensures failed { IfErr result (λ error. IsPeriodicError period self.old at (timings.Rate period) first error) }
+        ensures failed { IfErr result
+            (λ error. IsPeriodicError period self.old at (timings.Rate period) first error) }
     {
         if period == 0 {
             return Err(CallError::Illegal);
@@ -73,11 +76,13 @@ impl<A: Allocator> ScheduledExecutor<A> {
     /// [`CallError::Illegal`] where the fixed delay is 0; else as [`schedule`](ScheduledExecutor::schedule), where no span may
     /// be above 2^62.
     pub fn with_delay(&mut self, at: u64, first: u64, delay: u64) -> Result<Submitted, CallError>
-        ensures made { IfOk result (λ s. Submits self.old self.new at (timings.Fixed delay) first s) }
+        ensures made { IfOk result
+            (λ s. Submits self.old self.new at (timings.Fixed delay) first s) }
         ensures stays { OnOk result (StaysQuiet self.old self.new (self.old.count + 1)) }
         ensures refused { OnErr result (self.new ≡ self.old) }
         ensures legal { OnOk result (0 < delay) }
-        ensures failed { IfErr result (λ error. IsPeriodicError delay self.old at (timings.Fixed delay) first error) }
+        ensures failed { IfErr result
+            (λ error. IsPeriodicError delay self.old at (timings.Fixed delay) first error) }
     {
         if delay == 0 {
             return Err(CallError::Illegal);

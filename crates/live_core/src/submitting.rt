@@ -37,7 +37,9 @@ impl<A: Allocator> ScheduledExecutor<A> {
         ensures slots { IfOk result (λ s. SlotsFor self.old.table.slots self.new.table.slots s) }
         ensures full { OnErr result (AreTaken self.old.table.slots) }
         ensures stays { OnOk result (StaysQuiet self.old self.new (self.old.count + 1)) }
-        ensures made { IfOk result (λ s. Calls self.old self.new (moment, call.Submit self.old.count timing delay) (submit_reply timing s)) }
+        ensures made { IfOk result
+            (λ s. Calls self.old self.new (moment, call.Submit self.old.count timing delay)
+            (submit_reply timing s)) }
         ensures refused { OnErr result (self.new ≡ self.old) }
     {
         make_room(
@@ -74,7 +76,9 @@ impl<A: Allocator> ScheduledExecutor<A> {
         ensures seated { IsSeated self.new result }
         ensures slots { self.new.table.slots ≡ self.old.table.slots }
         ensures stays { StaysQuiet self.old self.new (self.old.count + 1) }
-        ensures made { (timing : timings.Timing) (delay : ℕ) → delay ≤ longest → IsTimed timing → Calls self.old self.new (moment, call.Submit self.old.count timing delay) (submit_reply timing result) }
+        ensures made { (timing : timings.Timing) (delay : ℕ) → delay ≤ longest → IsTimed timing
+            → Calls self.old self.new (moment, call.Submit self.old.count timing delay)
+            (submit_reply timing result) }
     {
         let number = self.count;
         self.table.refuse(moment);

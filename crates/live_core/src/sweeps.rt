@@ -34,16 +34,23 @@ pub(crate) fn set_policy<A: Allocator>(
     which: Which,
     value: bool,
 )
-    requires noted { (count : ℕ) × AreNoted table.old.slots count notes.old.free notes.old.entries notes.old.slot_room (vec_capacity ended.old) }
+    requires noted { (count : ℕ)
+        × AreNoted table.old.slots count notes.old.free notes.old.entries notes.old.slot_room
+        (vec_capacity ended.old) }
     requires moment { table.old.moment ≤ at }
     requires limit { at ≤ longest }
-    ensures noted { (count : ℕ) → AreNoted table.old.slots count notes.old.free notes.old.entries notes.old.slot_room (vec_capacity ended.old) → AreNoted table.new.slots count notes.new.free notes.new.entries notes.new.slot_room (vec_capacity ended.new) }
+    ensures noted { (count : ℕ)
+        → AreNoted table.old.slots count notes.old.free notes.old.entries notes.old.slot_room
+        (vec_capacity ended.old)
+        → AreNoted table.new.slots count notes.new.free notes.new.entries notes.new.slot_room
+        (vec_capacity ended.new) }
     ensures alive { AreAlive table.old.slots → AreAlive table.new.slots }
     ensures leaves { LeavesSlots table.old.slots table.new.slots }
     ensures workers { workers_of table.new ≡ workers_of table.old }
     ensures gone { AreGone table.old table.new ended.new.items }
     ensures shut { table.new.shut ≡ table.old.shut }
-    ensures steps { CallSteps table.old table.new (at, call.SetPolicy which value) (ending (answer.Policy which value) ended.new.items) }
+    ensures steps { CallSteps table.old table.new (at, call.SetPolicy which value)
+        (ending (answer.Policy which value) ended.new.items) }
 {
     if table.setting_sweeps(which, value) {
         drop_kept(table, notes);
@@ -62,17 +69,24 @@ pub(crate) fn shut_down<A: Allocator>(
     ended: &mut Vec<TaskRef, A>,
     at: u64,
 ) -> bool
-    requires noted { (count : ℕ) × AreNoted table.old.slots count notes.old.free notes.old.entries notes.old.slot_room (vec_capacity ended.old) }
+    requires noted { (count : ℕ)
+        × AreNoted table.old.slots count notes.old.free notes.old.entries notes.old.slot_room
+        (vec_capacity ended.old) }
     requires moment { table.old.moment ≤ at }
     requires limit { at ≤ longest }
     ensures first { result ≡ not table.old.shut }
-    ensures noted { (count : ℕ) → AreNoted table.old.slots count notes.old.free notes.old.entries notes.old.slot_room (vec_capacity ended.old) → AreNoted table.new.slots count notes.new.free notes.new.entries notes.new.slot_room (vec_capacity ended.new) }
+    ensures noted { (count : ℕ)
+        → AreNoted table.old.slots count notes.old.free notes.old.entries notes.old.slot_room
+        (vec_capacity ended.old)
+        → AreNoted table.new.slots count notes.new.free notes.new.entries notes.new.slot_room
+        (vec_capacity ended.new) }
     ensures alive { AreAlive table.old.slots → AreAlive table.new.slots }
     ensures leaves { LeavesSlots table.old.slots table.new.slots }
     ensures workers { workers_of table.new ≡ workers_of table.old }
     ensures gone { AreGone table.old table.new ended.new.items }
     ensures shut { table.new.shut ≡ true }
-    ensures steps { CallSteps table.old table.new (at, call.Shutdown) (ending (shutdown_answer result) ended.new.items) }
+    ensures steps { CallSteps table.old table.new (at, call.Shutdown)
+        (ending (shutdown_answer result) ended.new.items) }
 {
     if table.is_shut() {
         table.shut_down(at, ended);
@@ -92,16 +106,23 @@ pub(crate) fn shut_down_now<A: Allocator>(
     ended: &mut Vec<TaskRef, A>,
     at: u64,
 )
-    requires noted { (count : ℕ) × AreNoted table.old.slots count notes.old.free notes.old.entries notes.old.slot_room (vec_capacity ended.old) }
+    requires noted { (count : ℕ)
+        × AreNoted table.old.slots count notes.old.free notes.old.entries notes.old.slot_room
+        (vec_capacity ended.old) }
     requires moment { table.old.moment ≤ at }
     requires limit { at ≤ longest }
-    ensures noted { (count : ℕ) → AreNoted table.old.slots count notes.old.free notes.old.entries notes.old.slot_room (vec_capacity ended.old) → AreNoted table.new.slots count notes.new.free notes.new.entries notes.new.slot_room (vec_capacity ended.new) }
+    ensures noted { (count : ℕ)
+        → AreNoted table.old.slots count notes.old.free notes.old.entries notes.old.slot_room
+        (vec_capacity ended.old)
+        → AreNoted table.new.slots count notes.new.free notes.new.entries notes.new.slot_room
+        (vec_capacity ended.new) }
     ensures alive { AreAlive table.old.slots → AreAlive table.new.slots }
     ensures leaves { LeavesSlots table.old.slots table.new.slots }
     ensures workers { workers_of table.new ≡ workers_of table.old }
     ensures gone { AreGone table.old table.new ended.new.items }
     ensures shut { table.new.shut ≡ true }
-    ensures steps { CallSteps table.old table.new (at, call.ShutdownNow) (ending answer.ShutdownNow ended.new.items) }
+    ensures steps { CallSteps table.old table.new (at, call.ShutdownNow)
+        (ending answer.ShutdownNow ended.new.items) }
 {
     drop_kept(table, notes);
     table.shut_down_now(at, ended);
@@ -110,15 +131,26 @@ pub(crate) fn shut_down_now<A: Allocator>(
 
 /// Drops each kept task before a call that sweeps, and empties its slot.
 pub(crate) fn drop_kept<A: Allocator>(table: &mut TaskTable<A>, notes: &mut Notes<A>)
-    requires { (count : ℕ) × (ended_room : ℕ) × AreNoted table.old.slots count notes.old.free notes.old.entries notes.old.slot_room ended_room }
+    requires { (count : ℕ) × (ended_room : ℕ)
+        × AreNoted table.old.slots count notes.old.free notes.old.entries notes.old.slot_room
+        ended_room }
     ensures none { NoneKept table.new }
-    ensures noted { (count ended_room : ℕ) → AreNoted table.old.slots count notes.old.free notes.old.entries notes.old.slot_room ended_room → AreNoted table.new.slots count notes.new.free notes.new.entries notes.new.slot_room ended_room }
+    ensures noted { (count ended_room : ℕ)
+        → AreNoted table.old.slots count notes.old.free notes.old.entries notes.old.slot_room
+        ended_room
+        → AreNoted table.new.slots count notes.new.free notes.new.entries notes.new.slot_room
+        ended_room }
     ensures alive { AreAlive table.old.slots → AreAlive table.new.slots }
-    ensures gone { (i : ℕ) (x : seats.Seat) → slot_of table.old.slots i ≡ Some x → x.kept ≡ true → slot_of table.new.slots i ≡ None }
-    ensures leaves { (i : ℕ) (x : seats.Seat) → slot_of table.new.slots i ≡ Some x → slot_of table.old.slots i ≡ Some x }
+    ensures gone { (i : ℕ) (x : seats.Seat) → slot_of table.old.slots i ≡ Some x → x.kept ≡ true
+        → slot_of table.new.slots i ≡ None }
+    ensures leaves { (i : ℕ) (x : seats.Seat) → slot_of table.new.slots i ≡ Some x
+        → slot_of table.old.slots i ≡ Some x }
     ensures size { length table.new.slots ≡ length table.old.slots }
     ensures rest { table.new ≡ record table.old { slots = table.new.slots } }
-    ensures stands { (calls : List Planned) (past : List HistoryEntry) (p : Planned) → IsNextCall calls past p → sweeps_at table.old.shut p.1 ≡ true → StandsBefore table.old calls past happening.Call → StandsBefore table.new calls past happening.Call }
+    ensures stands { (calls : List Planned) (past : List HistoryEntry) (p : Planned)
+        → IsNextCall calls past p → sweeps_at table.old.shut p.1 ≡ true
+        → StandsBefore table.old calls past happening.Call
+        → StandsBefore table.new calls past happening.Call }
 {
     while let Some(slot) = table.drop_kept() {
         release(table, notes, slot);
@@ -131,15 +163,23 @@ pub(crate) fn release_each<A: Allocator>(
     notes: &mut Notes<A>,
     tasks: &[TaskRef],
 )
-    requires noted { (count : ℕ) × (ended_room : ℕ) × AreNoted table.old.slots count notes.old.free notes.old.entries notes.old.slot_room ended_room }
+    requires noted { (count : ℕ) × (ended_room : ℕ)
+        × AreNoted table.old.slots count notes.old.free notes.old.entries notes.old.slot_room
+        ended_room }
     requires over { All (IsOverAt table.old) tasks.now }
     requires ascending { IsAscending (numbers_of tasks.now) }
-    ensures noted { (count ended_room : ℕ) → AreNoted table.old.slots count notes.old.free notes.old.entries notes.old.slot_room ended_room → AreNoted table.new.slots count notes.new.free notes.new.entries notes.new.slot_room ended_room }
-    ensures leaves { (i : ℕ) (x : seats.Seat) → slot_of table.new.slots i ≡ Some x → slot_of table.old.slots i ≡ Some x }
+    ensures noted { (count ended_room : ℕ)
+        → AreNoted table.old.slots count notes.old.free notes.old.entries notes.old.slot_room
+        ended_room
+        → AreNoted table.new.slots count notes.new.free notes.new.entries notes.new.slot_room
+        ended_room }
+    ensures leaves { (i : ℕ) (x : seats.Seat) → slot_of table.new.slots i ≡ Some x
+        → slot_of table.old.slots i ≡ Some x }
     ensures gone { All (IsEmptyAt table.new) tasks.now }
     ensures size { length table.new.slots ≡ length table.old.slots }
     ensures rest { table.new ≡ record table.old { slots = table.new.slots } }
-    ensures stands { (calls : List Planned) (past : List HistoryEntry) → Stands table.old calls past → Stands table.new calls past }
+    ensures stands { (calls : List Planned) (past : List HistoryEntry) → Stands table.old calls past
+        → Stands table.new calls past }
 {
     for task in tasks {
         release(table, notes, task.slot);

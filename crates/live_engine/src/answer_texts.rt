@@ -30,7 +30,9 @@ pub(crate) fn tell<A: Allocator>(
     answer: Answer,
     lines: &mut Vec<Line, A>,
 ) -> Option<Told>
-    ensures { IfSome result (λ told. lines_told told lines.new.items ≡ lines_at executor.now.table.moment (ending answer executor.now.ended)) }
+    ensures { IfSome result
+        (λ told. lines_told told lines.new.items
+        ≡ lines_at executor.now.table.moment (ending answer executor.now.ended)) }
 {
     if executor.ended().is_empty() {
         return Some(Told::One(Line::new(executor.now(), Message::Answer(answer))));
@@ -48,7 +50,8 @@ fn list_lines<A: Allocator>(
     answer: Answer,
     lines: &mut Vec<Line, A>,
 ) -> bool
-    ensures { IsTrue result → lines.new.items ≡ lines_at executor.now.table.moment (ending answer executor.now.ended) }
+    ensures { IsTrue result
+        → lines.new.items ≡ lines_at executor.now.table.moment (ending answer executor.now.ended) }
 {
     lines.clear();
     executor.add_lines(answer, lines).is_ok()
@@ -73,8 +76,11 @@ pub(crate) fn give<A: Allocator, W: Sink>(
     draft: &mut Draft<A>,
     writer: &mut W,
 ) -> bool
-    ensures text { GivesText result (record { contents = W.contents writer.old; text = draft.old }) (record { contents = W.contents writer.new; text = draft.new }) (lines_text (lines_told told lines.now)) }
-    ensures counts { CountsTries result (W.failed writer.old) (W.fruitless writer.old) (W.failed writer.new) (W.fruitless writer.new) }
+    ensures text { GivesText result (record { contents = W.contents writer.old; text = draft.old })
+        (record { contents = W.contents writer.new; text = draft.new })
+        (lines_text (lines_told told lines.now)) }
+    ensures counts { CountsTries result (W.failed writer.old) (W.fruitless writer.old)
+        (W.failed writer.new) (W.fruitless writer.new) }
 {
     match told {
         Told::One(line) => draft.give_lines(&[line], writer),

@@ -40,18 +40,39 @@ pub(crate) fn answer_lines<A: Allocator, W: Sink>(
 ) -> Option<Answered>
     requires few { executor.old.count ≤ most_numbers }
     requires counted { AreCounted counts.old }
-    ensures stopped { IfSome result (λ a. (run : Setting) (left : Option (List ℕ)) (taken : List live_lines.LiveLine) →
-        DoneAt run (record { ends = record { left = left; contents = W.contents writer.old; journal = journal.old }; held = held.now; text = draft.old; counts = counts.old }) executor.old taken →
-        Stopped a.end run (record { ends = record { left = left; contents = W.contents writer.new; journal = journal.new }; held = drop a.bytes held.now; text = draft.new; counts = counts.new }) executor.new) }
-    ensures cut { IsNone result → ((run : Setting) (left : Option (List ℕ)) (taken : List live_lines.LiveLine) →
-        DoneAt run (record { ends = record { left = left; contents = W.contents writer.old; journal = journal.old }; held = held.now; text = draft.old; counts = counts.old }) executor.old taken →
-        IsCut run left held.now (W.contents writer.new) journal.new) }
+    ensures stopped { IfSome result
+        (λ a. (run : Setting) (left : Option (List ℕ)) (taken : List live_lines.LiveLine)
+        → DoneAt run
+        (record {
+          ends = record { left = left; contents = W.contents writer.old; journal = journal.old };
+          held = held.now;
+          text = draft.old;
+          counts = counts.old;
+        }) executor.old taken
+        → Stopped a.end run
+        (record {
+          ends = record { left = left; contents = W.contents writer.new; journal = journal.new };
+          held = drop a.bytes held.now;
+          text = draft.new;
+          counts = counts.new;
+        }) executor.new) }
+    ensures cut { IsNone result
+        → ((run : Setting) (left : Option (List ℕ)) (taken : List live_lines.LiveLine)
+        → DoneAt run
+        (record {
+          ends = record { left = left; contents = W.contents writer.old; journal = journal.old };
+          held = held.now;
+          text = draft.old;
+          counts = counts.old;
+        }) executor.old taken
+        → IsCut run left held.now (W.contents writer.new) journal.new) }
     ensures within { IfSome result (λ a. a.bytes ≤ length held.now) }
     ensures few { executor.new.count ≤ most_numbers }
     ensures counted { IfSome result (λ a. AreCounted counts.new) }
     ensures rises { IfSome result (λ a. counts.old.read ≤ counts.new.read) }
     ensures same { IfSome result (λ a. counts.new.read ≡ counts.old.read → a.bytes ≡ 0) }
-    ensures write { CountsTries (is_some result) (W.failed writer.old) (W.fruitless writer.old) (W.failed writer.new) (W.fruitless writer.new) }
+    ensures write { CountsTries (is_some result) (W.failed writer.old) (W.fruitless writer.old)
+        (W.failed writer.new) (W.fruitless writer.new) }
 {
     let mut rest = held;
     let end = loop {

@@ -42,9 +42,21 @@ pub fn run<A: Allocator, S: Source, W: Sink>(
 ) -> Result<LiveReport, RunError>
 where
     A: Copy,
-    ensures ran { Ran result workers (record { left = S.remaining reader.old; contents = W.contents writer.old; journal = journal.old }) (record { left = S.remaining reader.new; contents = W.contents writer.new; journal = journal.new }) }
-    ensures read { CountsReader result (S.failed reader.old) (S.fruitless reader.old) (S.failed reader.new) (S.fruitless reader.new) }
-    ensures write { CountsWriter result (W.failed writer.old) (W.fruitless writer.old) (W.failed writer.new) (W.fruitless writer.new) }
+    ensures ran { Ran result workers
+        (record {
+          left = S.remaining reader.old;
+          contents = W.contents writer.old;
+          journal = journal.old;
+        })
+        (record {
+          left = S.remaining reader.new;
+          contents = W.contents writer.new;
+          journal = journal.new;
+        }) }
+    ensures read { CountsReader result (S.failed reader.old) (S.fruitless reader.old)
+        (S.failed reader.new) (S.fruitless reader.new) }
+    ensures write { CountsWriter result (W.failed writer.old) (W.fruitless writer.old)
+        (W.failed writer.new) (W.fruitless writer.new) }
 {
     let mut engine = Engine::open(alloc, workers)?;
     loop {
@@ -110,15 +122,48 @@ impl<A: Allocator> Engine<A> {
         reader: &mut S,
         writer: &mut W,
     ) -> Result<Turn, StopError>
-        requires between { (run : Setting) × IsBetweenTurns run (record { ends = record { left = S.remaining reader.old; contents = W.contents writer.old; journal = journal.old }; held = self.old.held; text = self.old.draft; counts = self.old.counts }) self.old.executor }
+        requires between { (run : Setting)
+            × IsBetweenTurns run
+            (record {
+              ends = record {
+                left = S.remaining reader.old;
+                contents = W.contents writer.old;
+                journal = journal.old;
+              };
+              held = self.old.held;
+              text = self.old.draft;
+              counts = self.old.counts;
+            }) self.old.executor }
         requires few { self.old.executor.count ≤ most_numbers }
         requires counted { AreCounted self.old.counts }
-        ensures turns { (run : Setting) → let old : Progress = record { ends = record { left = S.remaining reader.old; contents = W.contents writer.old; journal = journal.old }; held = self.old.held; text = self.old.draft; counts = self.old.counts } in
-            IsBetweenTurns run old self.old.executor → Turns result run old (record { ends = record { left = S.remaining reader.new; contents = W.contents writer.new; journal = journal.new }; held = self.new.held; text = self.new.draft; counts = self.new.counts }) self.new.executor }
+        ensures turns { (run : Setting)
+            → let old : Progress = record {
+              ends = record {
+                left = S.remaining reader.old;
+                contents = W.contents writer.old;
+                journal = journal.old;
+              };
+              held = self.old.held;
+              text = self.old.draft;
+              counts = self.old.counts;
+            } in IsBetweenTurns run old self.old.executor
+            → Turns result run old
+            (record {
+              ends = record {
+                left = S.remaining reader.new;
+                contents = W.contents writer.new;
+                journal = journal.new;
+              };
+              held = self.new.held;
+              text = self.new.draft;
+              counts = self.new.counts;
+            }) self.new.executor }
         ensures few { self.new.executor.count ≤ most_numbers }
         ensures counted { OnOk result (AreCounted self.new.counts) }
-        ensures read { CountsReads result (S.failed reader.old) (S.fruitless reader.old) (S.failed reader.new) (S.fruitless reader.new) }
-        ensures write { CountsWrites result (W.failed writer.old) (W.fruitless writer.old) (W.failed writer.new) (W.fruitless writer.new) }
+        ensures read { CountsReads result (S.failed reader.old) (S.fruitless reader.old)
+            (S.failed reader.new) (S.fruitless reader.new) }
+        ensures write { CountsWrites result (W.failed writer.old) (W.fruitless writer.old)
+            (W.failed writer.new) (W.fruitless writer.new) }
     {
         match self.held.fill(reader) {
             Filled::More => {}
@@ -145,18 +190,46 @@ impl<A: Allocator> Engine<A> {
     fn answer_held<W: Sink>(&mut self, journal: &mut Journal<A>, writer: &mut W) -> Option<PieceEnd>
         requires few { self.old.executor.count ≤ most_numbers }
         requires counted { AreCounted self.old.counts }
-        ensures stopped { IfSome result (λ end. (run : Setting) (left : Option (List ℕ)) (taken : List live_lines.LiveLine) →
-            DoneAt run (record { ends = record { left = left; contents = W.contents writer.old; journal = journal.old }; held = self.old.held; text = self.old.draft; counts = self.old.counts }) self.old.executor taken →
-            Stopped end run (record { ends = record { left = left; contents = W.contents writer.new; journal = journal.new }; held = self.new.held; text = self.new.draft; counts = self.new.counts }) self.new.executor) }
-        ensures cut { IsNone result → ((run : Setting) (left : Option (List ℕ)) (taken : List live_lines.LiveLine) →
-            DoneAt run (record { ends = record { left = left; contents = W.contents writer.old; journal = journal.old }; held = self.old.held; text = self.old.draft; counts = self.old.counts }) self.old.executor taken →
-            IsCut run left self.old.held (W.contents writer.new) journal.new) }
+        ensures stopped { IfSome result
+            (λ end. (run : Setting) (left : Option (List ℕ)) (taken : List live_lines.LiveLine)
+            → DoneAt run
+            (record {
+              ends = record
+                  { left = left; contents = W.contents writer.old; journal = journal.old };
+              held = self.old.held;
+              text = self.old.draft;
+              counts = self.old.counts;
+            })
+            self.old.executor taken
+            → Stopped end run
+            (record {
+              ends = record
+                  { left = left; contents = W.contents writer.new; journal = journal.new };
+              held = self.new.held;
+              text = self.new.draft;
+              counts = self.new.counts;
+            })
+            self.new.executor) }
+        ensures cut { IsNone result
+            → ((run : Setting) (left : Option (List ℕ)) (taken : List live_lines.LiveLine)
+            → DoneAt run
+            (record {
+              ends = record
+                  { left = left; contents = W.contents writer.old; journal = journal.old };
+              held = self.old.held;
+              text = self.old.draft;
+              counts = self.old.counts;
+            })
+            self.old.executor taken
+            → IsCut run left self.old.held (W.contents writer.new) journal.new) }
         ensures few { self.new.executor.count ≤ most_numbers }
         ensures counted { IsSome result → (AreCounted self.new.counts) }
         ensures fewer { IsSome result → (length self.new.held ≤ length self.old.held) }
         ensures rises { IsSome result → (self.old.counts.read ≤ self.new.counts.read) }
-        ensures same { IsSome result → (self.new.counts.read ≡ self.old.counts.read → self.new.held ≡ self.old.held) }
-        ensures write { CountsTries (is_some result) (W.failed writer.old) (W.fruitless writer.old) (W.failed writer.new) (W.fruitless writer.new) }
+        ensures same { IsSome result
+            → (self.new.counts.read ≡ self.old.counts.read → self.new.held ≡ self.old.held) }
+        ensures write { CountsTries (is_some result) (W.failed writer.old) (W.fruitless writer.old)
+            (W.failed writer.new) (W.fruitless writer.new) }
     {
         let answered = answer_lines(
             &mut self.executor,
@@ -175,7 +248,12 @@ impl<A: Allocator> Engine<A> {
     fn end(&self) -> Result<Turn, StopError>
         requires counted { AreCounted self.now.counts }
         ensures { MatchResult result
-            (λ turn. (turn ≡ t.Ended (record { lines_read = self.now.counts.read; lines_written = self.now.counts.written })) × (self.now.held ≡ []))
+            (λ turn.
+            (turn
+            ≡ t.Ended
+            (record
+            { lines_read = self.now.counts.read; lines_written = self.now.counts.written }))
+            × (self.now.held ≡ []))
             (λ error. EndsAtLine error self.now.counts.read × (0 < length self.now.held)) }
     {
         if !self.held.bytes().is_empty() {

@@ -28,10 +28,14 @@ pub(crate) fn answer_line<A: Allocator>(
     requires fits { FitsLive line }
     requires few { executor.old.count ≤ most_numbers }
     requires counted { AreCounted counts.old }
-    ensures answers { IfOk result (λ told. Answers executor.old executor.new line (lines_told told lines.new.items) counts.old counts.new journal.old journal.new) }
+    ensures answers { IfOk result
+        (λ told. Answers executor.old executor.new line (lines_told told lines.new.items)
+        counts.old counts.new journal.old journal.new) }
     ensures few { executor.new.count ≤ most_numbers }
     ensures counted { OnOk result (AreCounted counts.new) }
-    ensures refuses { IfErr result (λ end. (workers : ℕ) (so_far : LiveHistory) → IsAt workers executor.old so_far → counts.old.written ≡ trace_length so_far → IsNotTaken end workers so_far line) }
+    ensures refuses { IfErr result
+        (λ end. (workers : ℕ) (so_far : LiveHistory) → IsAt workers executor.old so_far
+        → counts.old.written ≡ trace_length so_far → IsNotTaken end workers so_far line) }
     ensures uncounted { OnErr result (counts.new ≡ counts.old) }
     ensures unnoted { OnErr result (journal.new ≡ record journal.old { room = journal.new.room }) }
 {
@@ -63,7 +67,9 @@ pub(crate) fn answer_line<A: Allocator>(
 /// answer has no room.
 #[cold]
 fn end_after(written: u64, end: PieceEnd) -> PieceEnd
-    ensures { (workers : ℕ) (so_far : LiveHistory) (line : live_lines.LiveLine) → written ≡ trace_length so_far → IsNoStep end workers so_far line → IsNotTaken result workers so_far line }
+    ensures { (workers : ℕ) (so_far : LiveHistory) (line : live_lines.LiveLine)
+        → written ≡ trace_length so_far → IsNoStep end workers so_far line
+        → IsNotTaken result workers so_far line }
 {
     match end {
         PieceEnd::Memory if written >= MOST_LINES => PieceEnd::Full,

@@ -16,7 +16,8 @@ use live_core::{Asked, Begun, CallError, Ended, Submitted};
 /// The answer to a submission, whose number is below 2^32.
 pub(crate) fn submit_answer(submitted: Submitted, kind: Kind) -> Answer
     requires { number_of submitted < 2 ^ 32 }
-    ensures { (timing : timings.Timing) → kind ≡ kind_of timing → bare result ≡ submit_reply timing submitted }
+    ensures { (timing : timings.Timing) → kind ≡ kind_of timing
+        → bare result ≡ submit_reply timing submitted }
 {
     match submitted {
         Submitted::Accepted { task, due } => Answer::Submit {
@@ -54,7 +55,8 @@ pub(crate) fn shutdown_answer(is_first: bool) -> Answer
 
 /// The answer to an ask. More tasks than a line can spell are more than there is memory for.
 pub(crate) fn ask_answer(asked: Asked) -> Result<Answer, PieceEnd>
-    ensures answer { IfOk result (λ answer. answer ≡ answers.Ask asked.queue asked.running asked.shutdown asked.terminated) }
+    ensures answer { IfOk result
+        (λ answer. answer ≡ answers.Ask asked.queue asked.running asked.shutdown asked.terminated) }
     ensures memory { IfErr result (λ end. end ≡ e.Memory) }
 {
     let Ok(queue) = u32::try_from(asked.queue) else {

@@ -26,7 +26,9 @@ pub(crate) fn step_call<A: Allocator>(
 ) -> Result<Answer, PieceEnd>
     requires fits { FitsCall call }
     requires few { executor.old.count ≤ most_numbers }
-    ensures takes { IfOk result (λ answer. TakesLine executor.old executor.new (l.Call call) (ending answer executor.new.ended)) }
+    ensures takes { IfOk result
+        (λ answer. TakesLine executor.old executor.new (l.Call call)
+        (ending answer executor.new.ended)) }
     ensures few { executor.new.count ≤ most_numbers }
     ensures refuses { IfErr result (λ end. Refuses end executor.old (l.Call call)) }
 {
@@ -50,9 +52,12 @@ fn schedule<A: Allocator>(
 ) -> Result<Answer, PieceEnd>
     requires fits { delay ≤ longest }
     requires few { executor.old.count ≤ most_numbers }
-    ensures takes { IfOk result (λ answer. TakesLine executor.old executor.new (l.Call (call.Schedule delay)) (ending answer executor.new.ended)) }
+    ensures takes { IfOk result
+        (λ answer. TakesLine executor.old executor.new (l.Call (call.Schedule delay))
+        (ending answer executor.new.ended)) }
     ensures few { executor.new.count ≤ most_numbers }
-    ensures refuses { IfErr result (λ end. Refuses end executor.old (l.Call (call.Schedule delay))) }
+    ensures refuses { IfErr result
+        (λ end. Refuses end executor.old (l.Call (call.Schedule delay))) }
 {
     if executor.numbers() >= MOST_NUMBERS {
         return Err(PieceEnd::Full);
@@ -66,7 +71,9 @@ fn schedule<A: Allocator>(
 /// A task is submitted for one run at once.
 fn execute<A: Allocator>(executor: &mut ScheduledExecutor<A>) -> Result<Answer, PieceEnd>
     requires few { executor.old.count ≤ most_numbers }
-    ensures takes { IfOk result (λ answer. TakesLine executor.old executor.new (l.Call call.Execute) (ending answer executor.new.ended)) }
+    ensures takes { IfOk result
+        (λ answer. TakesLine executor.old executor.new (l.Call call.Execute)
+        (ending answer executor.new.ended)) }
     ensures few { executor.new.count ≤ most_numbers }
     ensures refuses { IfErr result (λ end. Refuses end executor.old (l.Call call.Execute)) }
 {
@@ -87,9 +94,12 @@ fn at_rate<A: Allocator>(
 ) -> Result<Answer, PieceEnd>
     requires fits { FitsSpans (first, period) }
     requires few { executor.old.count ≤ most_numbers }
-    ensures takes { IfOk result (λ answer. TakesLine executor.old executor.new (l.Call (call.Rate first period)) (ending answer executor.new.ended)) }
+    ensures takes { IfOk result
+        (λ answer. TakesLine executor.old executor.new (l.Call (call.Rate first period))
+        (ending answer executor.new.ended)) }
     ensures few { executor.new.count ≤ most_numbers }
-    ensures refuses { IfErr result (λ end. Refuses end executor.old (l.Call (call.Rate first period))) }
+    ensures refuses { IfErr result
+        (λ end. Refuses end executor.old (l.Call (call.Rate first period))) }
 {
     if executor.numbers() >= MOST_NUMBERS {
         return Err(PieceEnd::Full);
@@ -108,9 +118,12 @@ fn with_delay<A: Allocator>(
 ) -> Result<Answer, PieceEnd>
     requires fits { FitsSpans (first, delay) }
     requires few { executor.old.count ≤ most_numbers }
-    ensures takes { IfOk result (λ answer. TakesLine executor.old executor.new (l.Call (call.Fixed first delay)) (ending answer executor.new.ended)) }
+    ensures takes { IfOk result
+        (λ answer. TakesLine executor.old executor.new (l.Call (call.Fixed first delay))
+        (ending answer executor.new.ended)) }
     ensures few { executor.new.count ≤ most_numbers }
-    ensures refuses { IfErr result (λ end. Refuses end executor.old (l.Call (call.Fixed first delay))) }
+    ensures refuses { IfErr result
+        (λ end. Refuses end executor.old (l.Call (call.Fixed first delay))) }
 {
     if executor.numbers() >= MOST_NUMBERS {
         return Err(PieceEnd::Full);
@@ -124,7 +137,9 @@ fn with_delay<A: Allocator>(
 /// A task is cancelled.
 fn cancel<A: Allocator>(executor: &mut ScheduledExecutor<A>, task: u32) -> Result<Answer, PieceEnd>
     requires few { executor.old.count ≤ most_numbers }
-    ensures takes { IfOk result (λ answer. TakesLine executor.old executor.new (l.Call (call.Cancel task)) (ending answer executor.new.ended)) }
+    ensures takes { IfOk result
+        (λ answer. TakesLine executor.old executor.new (l.Call (call.Cancel task))
+        (ending answer executor.new.ended)) }
     ensures few { executor.new.count ≤ most_numbers }
     ensures refuses { IfErr result (λ end. Refuses end executor.old (l.Call (call.Cancel task))) }
 {
@@ -141,9 +156,12 @@ fn set_policy<A: Allocator>(
     value: bool,
 ) -> Result<Answer, PieceEnd>
     requires few { executor.old.count ≤ most_numbers }
-    ensures takes { IfOk result (λ answer. TakesLine executor.old executor.new (l.Call (call.Policy which value)) (ending answer executor.new.ended)) }
+    ensures takes { IfOk result
+        (λ answer. TakesLine executor.old executor.new (l.Call (call.Policy which value))
+        (ending answer executor.new.ended)) }
     ensures few { executor.new.count ≤ most_numbers }
-    ensures refuses { IfErr result (λ end. Refuses end executor.old (l.Call (call.Policy which value))) }
+    ensures refuses { IfErr result
+        (λ end. Refuses end executor.old (l.Call (call.Policy which value))) }
 {
     match executor.set_policy(0, which, value) {
         Ok(()) => Ok(Answer::Policy { which, value }),
@@ -154,7 +172,9 @@ fn set_policy<A: Allocator>(
 /// The executor is shut, in order.
 fn shut_down<A: Allocator>(executor: &mut ScheduledExecutor<A>) -> Result<Answer, PieceEnd>
     requires few { executor.old.count ≤ most_numbers }
-    ensures takes { IfOk result (λ answer. TakesLine executor.old executor.new (l.Call call.Shutdown) (ending answer executor.new.ended)) }
+    ensures takes { IfOk result
+        (λ answer. TakesLine executor.old executor.new (l.Call call.Shutdown)
+        (ending answer executor.new.ended)) }
     ensures few { executor.new.count ≤ most_numbers }
     ensures refuses { IfErr result (λ end. Refuses end executor.old (l.Call call.Shutdown)) }
 {
@@ -167,7 +187,9 @@ fn shut_down<A: Allocator>(executor: &mut ScheduledExecutor<A>) -> Result<Answer
 /// The executor is shut at once.
 fn shut_down_now<A: Allocator>(executor: &mut ScheduledExecutor<A>) -> Result<Answer, PieceEnd>
     requires few { executor.old.count ≤ most_numbers }
-    ensures takes { IfOk result (λ answer. TakesLine executor.old executor.new (l.Call call.ShutdownNow) (ending answer executor.new.ended)) }
+    ensures takes { IfOk result
+        (λ answer. TakesLine executor.old executor.new (l.Call call.ShutdownNow)
+        (ending answer executor.new.ended)) }
     ensures few { executor.new.count ≤ most_numbers }
     ensures refuses { IfErr result (λ end. Refuses end executor.old (l.Call call.ShutdownNow)) }
 {
@@ -180,7 +202,9 @@ fn shut_down_now<A: Allocator>(executor: &mut ScheduledExecutor<A>) -> Result<An
 /// The executor is asked how far it is.
 fn ask<A: Allocator>(executor: &mut ScheduledExecutor<A>) -> Result<Answer, PieceEnd>
     requires few { executor.old.count ≤ most_numbers }
-    ensures takes { IfOk result (λ answer. TakesLine executor.old executor.new (l.Call call.Ask) (ending answer executor.new.ended)) }
+    ensures takes { IfOk result
+        (λ answer. TakesLine executor.old executor.new (l.Call call.Ask)
+        (ending answer executor.new.ended)) }
     ensures few { executor.new.count ≤ most_numbers }
     ensures refuses { IfErr result (λ end. Refuses end executor.old (l.Call call.Ask)) }
 {

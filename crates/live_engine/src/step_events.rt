@@ -20,7 +20,9 @@ pub(crate) fn step_event<A: Allocator>(
     event: Event,
 ) -> Result<Answer, PieceEnd>
     requires few { executor.old.count ≤ most_numbers }
-    ensures takes { IfOk result (λ answer. TakesLine executor.old executor.new (l.Event event) (ending answer executor.new.ended)) }
+    ensures takes { IfOk result
+        (λ answer. TakesLine executor.old executor.new (l.Event event)
+        (ending answer executor.new.ended)) }
     ensures few { executor.new.count ≤ most_numbers }
     ensures refuses { IfErr result (λ end. Refuses end executor.old (l.Event event)) }
 {
@@ -34,7 +36,8 @@ pub(crate) fn step_event<A: Allocator>(
 
 /// The clock shows a moment.
 fn clock<A: Allocator>(executor: &mut ScheduledExecutor<A>, moment: u64) -> Answer
-    ensures takes { TakesLine executor.old executor.new (l.Event (v.Clock moment)) (ending result executor.new.ended) }
+    ensures takes { TakesLine executor.old executor.new (l.Event (v.Clock moment))
+        (ending result executor.new.ended) }
     ensures few { executor.new.count ≡ executor.old.count }
 {
     match executor.clock(moment) {
@@ -46,7 +49,9 @@ fn clock<A: Allocator>(executor: &mut ScheduledExecutor<A>, moment: u64) -> Answ
 /// A worker asks for work.
 fn start<A: Allocator>(executor: &mut ScheduledExecutor<A>, worker: u8) -> Result<Answer, PieceEnd>
     requires few { executor.old.count ≤ most_numbers }
-    ensures takes { IfOk result (λ answer. TakesLine executor.old executor.new (l.Event (v.Start worker)) (ending answer executor.new.ended)) }
+    ensures takes { IfOk result
+        (λ answer. TakesLine executor.old executor.new (l.Event (v.Start worker))
+        (ending answer executor.new.ended)) }
     ensures few { executor.new.count ≡ executor.old.count }
     ensures refuses { IfErr result (λ end. Refuses end executor.old (l.Event (v.Start worker))) }
 {
@@ -60,7 +65,8 @@ fn start<A: Allocator>(executor: &mut ScheduledExecutor<A>, worker: u8) -> Resul
 /// The run of a worker ended.
 fn finish<A: Allocator>(executor: &mut ScheduledExecutor<A>, worker: u8, ending: Ending) -> Answer
     requires few { executor.old.count ≤ most_numbers }
-    ensures takes { TakesLine executor.old executor.new (l.Event (v.Finish worker ending)) (said.ending result executor.new.ended) }
+    ensures takes { TakesLine executor.old executor.new (l.Event (v.Finish worker ending))
+        (said.ending result executor.new.ended) }
     ensures few { executor.new.count ≡ executor.old.count }
 {
     match executor.finish(worker, ending) {
@@ -71,7 +77,8 @@ fn finish<A: Allocator>(executor: &mut ScheduledExecutor<A>, worker: u8, ending:
 
 /// A task is cancelled from outside.
 fn cancel<A: Allocator>(executor: &mut ScheduledExecutor<A>, task: u32) -> Answer
-    ensures takes { TakesLine executor.old executor.new (l.Event (v.Cancel task)) (ending result executor.new.ended) }
+    ensures takes { TakesLine executor.old executor.new (l.Event (v.Cancel task))
+        (ending result executor.new.ended) }
     ensures few { executor.new.count ≡ executor.old.count }
 {
     match executor.cancel_number(task as u64) {

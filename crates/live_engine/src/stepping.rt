@@ -19,7 +19,8 @@ pub(crate) fn step<A: Allocator>(
 ) -> Result<Answer, PieceEnd>
     requires fits { FitsLive line }
     requires few { executor.old.count ≤ most_numbers }
-    ensures takes { IfOk result (λ answer. TakesLine executor.old executor.new line (ending answer executor.new.ended)) }
+    ensures takes { IfOk result
+        (λ answer. TakesLine executor.old executor.new line (ending answer executor.new.ended)) }
     ensures few { executor.new.count ≤ most_numbers }
     ensures refuses { IfErr result (λ end. Refuses end executor.old line) }
 {

@@ -12,7 +12,8 @@ use sched_time::{LONGEST, Span, Timing, Unit, span};
 /// The call that a line makes, where so many numbers were given out: a submission has the next one. `None` where the call does not
 /// fit, or cancels a number that was not given out.
 pub(crate) fn code_of(numbers: u32, call: CallLine) -> Option<CodeCall>
-    ensures { MatchOption result (FitsIn numbers call → ⊥) (λ code. (code ≡ live.code_of numbers call) × FitsIn numbers call) }
+    ensures { MatchOption result (FitsIn numbers call → ⊥)
+        (λ code. (code ≡ live.code_of numbers call) × FitsIn numbers call) }
 {
     match call {
         CallLine::Schedule(delay) => submission(numbers, Timing::Once, delay),
@@ -33,7 +34,8 @@ pub(crate) fn code_of(numbers: u32, call: CallLine) -> Option<CodeCall>
 
 /// The submission of a task that is timed so, and `None` where its delay is above the limit.
 fn submission(task: u32, timing: Timing, delay: u64) -> Option<CodeCall>
-    ensures { MatchOption result (FitsSpan delay → ⊥) (λ code. (code ≡ codes.Submit task timing delay) × FitsSpan delay) }
+    ensures { MatchOption result (FitsSpan delay → ⊥)
+        (λ code. (code ≡ codes.Submit task timing delay) × FitsSpan delay) }
 {
     if delay > LONGEST {
         return None;
@@ -47,7 +49,8 @@ fn submission(task: u32, timing: Timing, delay: u64) -> Option<CodeCall>
 
 /// The cancel of a task, and `None` where its number was not given out.
 fn cancel(numbers: u32, task: u32) -> Option<CodeCall>
-    ensures { MatchOption result (numbers ≤ task) (λ code. (code ≡ codes.Cancel task) × (task < numbers)) }
+    ensures { MatchOption result (numbers ≤ task)
+        (λ code. (code ≡ codes.Cancel task) × (task < numbers)) }
 {
     if task >= numbers {
         return None;
@@ -57,7 +60,8 @@ fn cancel(numbers: u32, task: u32) -> Option<CodeCall>
 
 /// The period, or the fixed delay, of so many nanoseconds, and `None` where they are none or above the limit.
 fn period_of(nanos: u64) -> Option<Span>
-    ensures { MatchOption result (FitsPeriod nanos → ⊥) (λ period. (period ≡ nanos) × FitsPeriod nanos) }
+    ensures { MatchOption result (FitsPeriod nanos → ⊥)
+        (λ period. (period ≡ nanos) × FitsPeriod nanos) }
 {
     if nanos == 0 || nanos > LONGEST {
         return None;

@@ -71,8 +71,12 @@ impl<A: Allocator + Copy> Script<A> {
 
     /// Takes a line. `false` where it is not plain.
     pub(crate) fn take(&mut self, line: LiveLine) -> Result<bool, AllocError>
-        ensures plain { IfOk result (λ taken. (workers : ℕ) (so_far : LiveHistory) → Shows workers so_far self.old → (IsTrue taken ↔ IsPlain so_far line)) }
-        ensures shows { IfOk result (λ taken. (workers : ℕ) (so_far : LiveHistory) → Shows workers so_far self.old → IsTrue taken → Shows workers (after_line workers so_far line) self.new) }
+        ensures plain { IfOk result
+            (λ taken. (workers : ℕ) (so_far : LiveHistory) → Shows workers so_far self.old
+            → (IsTrue taken ↔ IsPlain so_far line)) }
+        ensures shows { IfOk result
+            (λ taken. (workers : ℕ) (so_far : LiveHistory) → Shows workers so_far self.old
+            → IsTrue taken → Shows workers (after_line workers so_far line) self.new) }
     {
         match line {
             LiveLine::Event(event) => self.take_event(event),
@@ -83,7 +87,9 @@ impl<A: Allocator + Copy> Script<A> {
     /// Takes the line of an event.
     fn take_event(&mut self, event: Event) -> Result<bool, AllocError>
         ensures plain { IfOk result (λ taken. IsTrue taken) }
-        ensures shows { OnOk result ((workers : ℕ) (so_far : LiveHistory) → Shows workers so_far self.old → Shows workers (after_line workers so_far (l.Event event)) self.new) }
+        ensures shows { OnOk result
+            ((workers : ℕ) (so_far : LiveHistory) → Shows workers so_far self.old
+            → Shows workers (after_line workers so_far (l.Event event)) self.new) }
     {
         self.meet(event)?;
         Ok(true)
@@ -91,8 +97,12 @@ impl<A: Allocator + Copy> Script<A> {
 
     /// Takes the line of a call. `false` where it is not plain.
     fn take_call(&mut self, call: CallLine) -> Result<bool, AllocError>
-        ensures plain { IfOk result (λ taken. (workers : ℕ) (so_far : LiveHistory) → Shows workers so_far self.old → (IsTrue taken ↔ IsPlain so_far (l.Call call))) }
-        ensures shows { IfOk result (λ taken. (workers : ℕ) (so_far : LiveHistory) → Shows workers so_far self.old → IsTrue taken → Shows workers (after_line workers so_far (l.Call call)) self.new) }
+        ensures plain { IfOk result
+            (λ taken. (workers : ℕ) (so_far : LiveHistory) → Shows workers so_far self.old
+            → (IsTrue taken ↔ IsPlain so_far (l.Call call))) }
+        ensures shows { IfOk result
+            (λ taken. (workers : ℕ) (so_far : LiveHistory) → Shows workers so_far self.old
+            → IsTrue taken → Shows workers (after_line workers so_far (l.Call call)) self.new) }
     {
         let moment = self.moment.max(self.earliest);
         if !self.has_room(moment) {
@@ -107,7 +117,8 @@ impl<A: Allocator + Copy> Script<A> {
 
     /// Whether one call more may be made, at this moment.
     fn has_room(&self, moment: u64) -> bool
-        ensures { IsTrue result ↔ ((length self.now.calls < most_calls_of_code) × (moment ≤ longest)) }
+        ensures { IsTrue result
+            ↔ ((length self.now.calls < most_calls_of_code) × (moment ≤ longest)) }
     {
         self.calls.len() < MOST_CALLS && moment <= LONGEST
     }
@@ -139,7 +150,13 @@ impl<A: Allocator + Copy> Script<A> {
 
     /// The clock shows a moment, which is accepted or not.
     fn show(&mut self, moment: u64)
-        ensures { self.new ≡ record self.old { moment = if is_accepted self.old.moment moment then moment else self.old.moment; earliest = if is_accepted self.old.moment moment then moment + 1 else self.old.earliest } }
+        ensures { self.new
+            ≡ record self.old {
+              moment = if is_accepted self.old.moment moment then moment
+                  else self.old.moment;
+              earliest = if is_accepted self.old.moment moment then moment + 1
+                  else self.old.earliest;
+            } }
     {
         if self.moment <= moment && moment <= LONGEST {
             self.moment = moment;
@@ -166,7 +183,10 @@ impl<A: Allocator + Copy> Script<A> {
     /// The lines of the trace.
     pub(crate) fn trace(&self, alloc: A, workers: u8) -> Result<Vec<Line, A>, AllocError>
         requires { IsPlanned self.now.calls }
-        ensures { IfOk result (λ lines. lines.items ≡ lines_of self.now.calls (history_from self.now.calls workers [] (reverse self.now.happened))) }
+        ensures { IfOk result
+            (λ lines. lines.items
+            ≡ lines_of self.now.calls
+            (history_from self.now.calls workers [] (reverse self.now.happened))) }
     {
         trace_of_happenings(alloc, &self.calls, workers, &self.happened)
     }

@@ -19,7 +19,8 @@ pub fn trace_of_lines<A: Allocator + Copy>(
     workers: u8,
     lines: &[LiveLine],
 ) -> Result<Option<Vec<Line, A>>, AllocError>
-    ensures lines { IfOk result (λ told. IfSome told (λ v. v.items ≡ lines_in (live_history workers (reverse lines.now)))) }
+    ensures lines { IfOk result
+        (λ told. IfSome told (λ v. v.items ≡ lines_in (live_history workers (reverse lines.now)))) }
     ensures whole { IfOk result (λ told. IsSome told ↔ ArePlain workers (reverse lines.now)) }
 {
     let Some(script) = script_of(alloc, lines)? else {
@@ -33,7 +34,10 @@ fn script_of<A: Allocator + Copy>(
     alloc: A,
     lines: &[LiveLine],
 ) -> Result<Option<Script<A>>, AllocError>
-    ensures { IfOk result (λ told. (workers : ℕ) → MatchOption told (ArePlain workers (reverse lines.now) → ⊥) (λ script. ShowsAll workers (reverse lines.now) script)) }
+    ensures { IfOk result
+        (λ told. (workers : ℕ)
+        → MatchOption told (ArePlain workers (reverse lines.now) → ⊥)
+        (λ script. ShowsAll workers (reverse lines.now) script)) }
 {
     let mut script = Script::new(alloc);
     for line in lines {

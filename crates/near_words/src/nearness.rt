@@ -20,8 +20,11 @@ pub fn near<'w, A: Allocator + Copy>(
     word: &str,
     words: &[&'w str],
 ) -> Result<Vec<&'w str, A>, AllocError>
-    ensures near { IfOk result (λ those. All (λ other. IsNear word.now words.now other.now) those.items) }
-    ensures alone { IfOk result (λ those. Any (λ other. IsSameBut word.now other.now) words.now → All (λ other. IsSameBut word.now other.now) those.items) }
+    ensures near { IfOk result
+        (λ those. All (λ other. IsNear word.now words.now other.now) those.items) }
+    ensures alone { IfOk result
+        (λ those. Any (λ other. IsSameBut word.now other.now) words.now
+        → All (λ other. IsSameBut word.now other.now) those.items) }
     ensures few { IfOk result (λ those. length those.items ≤ 3) }
 {
     let those = in_other_case(alloc, word, words)?;
@@ -38,9 +41,11 @@ fn in_other_case<'w, A: Allocator + Copy>(
     word: &str,
     words: &[&'w str],
 ) -> Result<Vec<&'w str, A>, AllocError>
-    ensures near { IfOk result (λ those. All (λ other. IsNear word.now words.now other.now) those.items) }
+    ensures near { IfOk result
+        (λ those. All (λ other. IsNear word.now words.now other.now) those.items) }
     ensures same { IfOk result (λ those. All (λ other. IsSameBut word.now other.now) those.items) }
-    ensures none { IfOk result (λ those. those.items ≡ [] → Any (λ other. IsSameBut word.now other.now) words.now → ⊥) }
+    ensures none { IfOk result
+        (λ those. those.items ≡ [] → Any (λ other. IsSameBut word.now other.now) words.now → ⊥) }
     ensures few { IfOk result (λ those. length those.items ≤ 3) }
 {
     let mut those = Vec::new(alloc);
@@ -59,7 +64,8 @@ fn in_few_edits<'w, A: Allocator + Copy>(
     word: &str,
     words: &[&'w str],
 ) -> Result<Vec<&'w str, A>, AllocError>
-    ensures near { IfOk result (λ those. All (λ other. IsNear word.now words.now other.now) those.items) }
+    ensures near { IfOk result
+        (λ those. All (λ other. IsNear word.now words.now other.now) those.items) }
     ensures few { IfOk result (λ those. length those.items ≤ 3) }
 {
     let mut least = MOST_EDITS;

@@ -42,7 +42,9 @@ fn emit_block<A: Allocator, B: Allocator>(
     block: &Block<B>,
 ) -> Result<(), AllocError>
     requires { AreInRange firsts.now first block.now.header.at block.now.calls }
-    ensures { IfOk result (λ _. out.new.items ≡ out.old.items ++ block_instrs firsts.now first block.now.header block.now.calls) }
+    ensures { IfOk result
+        (λ _. out.new.items
+        ≡ out.old.items ++ block_instrs firsts.now first block.now.header block.now.calls) }
 {
     if block.calls().is_empty() {
         return Ok(());
@@ -66,7 +68,11 @@ fn emit_calls<A: Allocator, B: Allocator>(
     block: &Block<B>,
 ) -> Result<(), AllocError>
     requires { AreInRange firsts.now first block.now.header.at block.now.calls }
-    ensures { IfOk result (λ _. out.new.items ≡ out.old.items ++ instrs_at firsts.now first (nat_lt 1 block.now.header.times) block.now.header.at block.now.calls) }
+    ensures { IfOk result
+        (λ _. out.new.items
+        ≡ out.old.items
+        ++ instrs_at firsts.now first (nat_lt 1 block.now.header.times) block.now.header.at
+        block.now.calls) }
 {
     let at = block.at();
     let repeated = block.times() > 1;

@@ -14,7 +14,8 @@ use plan_read::{LONGEST_TEXT, migrated_trees_write, plans_are_ordered};
 
 /// The calls of each plan that a text writes are few enough, and in order, as the executor takes them and as its laws ask.
 pub fn calls_are_in_order()
-    ensures { (text : List ℕ) (plan : PlanTree) → TextWrites text plan → IsPlanned (calls_of_plan plan) }
+    ensures { (text : List ℕ) (plan : PlanTree) → TextWrites text plan
+        → IsPlanned (calls_of_plan plan) }
 {
     plans_are_ordered();
 }
@@ -26,7 +27,9 @@ pub fn units_make_no_calls()
 
 /// A tree of version 1 and the tree to which it is migrated make the same calls.
 pub fn migrated_trees_call_the_same()
-    ensures { (ms : Members) (plan : PlanTree) → TreeWritesIn One ms plan → (other : PlanTree) × TreeWritesIn Two (migrated ms) other × (calls_of_plan other ≡ calls_of_plan plan) }
+    ensures { (ms : Members) (plan : PlanTree) → TreeWritesIn One ms plan
+        → (other : PlanTree) × TreeWritesIn Two (migrated ms) other
+        × (calls_of_plan other ≡ calls_of_plan plan) }
 {
     migrated_trees_write();
     units_make_no_calls();

@@ -41,9 +41,18 @@ pub fn read_call<'a, A: Allocator + Copy>(
     table: &'a Table,
 ) -> Result<Call, ReadError>
     requires { 1 ≤ header.times }
-    ensures call { Reads (λ c. c) result (place_fault place (call_tests lists.now.version (found_in names.old (name_at (table_view table.now))) site.target.block header last (table_view table.now))) (written_call lists.now.version (found_in names.old (name_at (table_view table.now))) header (table_view table.now)) }
+    ensures call { Reads (λ c. c) result
+        (place_fault place
+        (call_tests lists.now.version (found_in names.old (name_at (table_view table.now)))
+        site.target.block header last (table_view table.now)))
+        (written_call lists.now.version (found_in names.old (name_at (table_view table.now)))
+        header (table_view table.now)) }
     ensures plain { IfOk result (λ c. members_are_plain 0 (table_view table.now) ≡ true) }
-    ensures names { OnOk result ((q : List ℕ) → found_in names.new q ≡ if submits (verb_at (table_view table.now)) && bytes_eq (name_at (table_view table.now)) q then Some site else found_in names.old q) }
+    ensures names { OnOk result
+        ((q : List ℕ)
+        → found_in names.new q
+        ≡ if submits (verb_at (table_view table.now))
+        && bytes_eq (name_at (table_view table.now)) q then Some site else found_in names.old q) }
 {
     let mut slots = EMPTY_SLOTS;
     let row = Row::new(table, &mut slots);
@@ -56,7 +65,8 @@ pub fn read_call<'a, A: Allocator + Copy>(
 /// The operation of a call.
 #[tactic(auto, unfolding(crate::specs::own::Walk::verb_tests, crate::specs::own::Values::verb_at))]
 fn read_verb(place: Place, row: &Row) -> Result<Verb, ReadError>
-    ensures { Reads (λ v. v) result (place_fault place (verb_tests (table_view row.now.table.now))) (verb_at (table_view row.now.table.now)) }
+    ensures { Reads (λ v. v) result (place_fault place (verb_tests (table_view row.now.table.now)))
+        (verb_at (table_view row.now.table.now)) }
 {
     if !row.has(KeyName::Op) {
         return Err(place.fault(PlanFaultKind::Missing));
@@ -79,7 +89,9 @@ fn read_units<A: Allocator>(
     unit: Unit,
     row: &Row,
 ) -> Result<Units, ReadError>
-    ensures { Reads (λ u. u) result (place_fault place (key_tests lists.now.version verb (table_view row.now.table.now))) (units_in lists.now.version unit (table_view row.now.table.now)) }
+    ensures { Reads (λ u. u) result
+        (place_fault place (key_tests lists.now.version verb (table_view row.now.table.now)))
+        (units_in lists.now.version unit (table_view row.now.table.now)) }
 {
     lists.check(place, Role::Call(verb), row)?;
     match lists.version {
@@ -101,7 +113,10 @@ fn read_timed(
 ) -> Result<Call, ReadError>
     requires times { 1 ≤ header.times }
     requires keys { AreGiven (verb_with subject) (table_view row.now.table.now) }
-    ensures { Reads (λ c. c) result (place_fault place (time_tests (verb_with subject) units header last (table_view row.now.table.now))) (call_with subject units (table_view row.now.table.now)) }
+    ensures { Reads (λ c. c) result
+        (place_fault place
+        (time_tests (verb_with subject) units header last (table_view row.now.table.now)))
+        (call_with subject units (table_view row.now.table.now)) }
 {
     let at = row.integer(KeyName::At).unwrap_or(0);
     if at < 0 {
@@ -121,7 +136,11 @@ fn read_timed(
 /// The operation of a call on a subject.
 fn read_op(place: Place, subject: Subject, units: Units, row: &Row) -> Result<Op, ReadError>
     requires { AreGiven (verb_with subject) (table_view row.now.table.now) }
-    ensures { Reads (λ o. o) result (place_fault place ((kinds.TooLarge barring are_spans_short (verb_with subject) units (table_view row.now.table.now)) ∷ [])) (op_with subject units (table_view row.now.table.now)) }
+    ensures { Reads (λ o. o) result
+        (place_fault place
+        ((kinds.TooLarge barring are_spans_short (verb_with subject) units
+        (table_view row.now.table.now)) ∷ []))
+        (op_with subject units (table_view row.now.table.now)) }
 {
     match subject {
         Subject::Schedule(name) => {
@@ -153,7 +172,9 @@ fn read_op(place: Place, subject: Subject, units: Units, row: &Row) -> Result<Op
 
 /// The nanoseconds of a period or a fixed delay, and none where it is zero or negative.
 fn read_period(place: Place, value: i64, unit: Unit) -> Result<Option<Span>, ReadError>
-    ensures { Reads (λ p. p) result (place_fault place ((kinds.TooLarge barring nat_le (span_of value unit) longest) ∷ [])) (period_of value unit) }
+    ensures { Reads (λ p. p) result
+        (place_fault place ((kinds.TooLarge barring nat_le (span_of value unit) longest) ∷ []))
+        (period_of value unit) }
 {
     match period(value, unit) {
         Ok(period) => Ok(period),
@@ -163,9 +184,13 @@ fn read_period(place: Place, value: i64, unit: Unit) -> Result<Option<Span>, Rea
 
 /// The policy that a table sets, and its value.
 fn read_policy(row: &Row) -> Op
-    requires which { is_some (option_and_then which_of_word (given_text (codes "which") (table_view row.now.table.now))) ≡ true }
+    requires which { is_some
+        (option_and_then which_of_word
+        (given_text (codes "which") (table_view row.now.table.now))) ≡ true }
     requires value { is_some (given_truth (codes "value") (table_view row.now.table.now)) ≡ true }
-    ensures { result ≡ ops.Policy (which_at (table_view row.now.table.now)) (truth_at (codes "value") (table_view row.now.table.now)) }
+    ensures { result
+        ≡ ops.Policy (which_at (table_view row.now.table.now))
+        (truth_at (codes "value") (table_view row.now.table.now)) }
 {
     let Some(which) = which_of_word(row.required_text(KeyName::Which)) else {
         unreachable!()

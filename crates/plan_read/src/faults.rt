@@ -91,7 +91,8 @@ impl Place {
 
     /// A fault of this kind at this place.
     pub fn fault(self, kind: PlanFaultKind) -> ReadError
-        ensures { result ≡ errors.Fault (record { kind = kind; block = self.block; call = self.call }) }
+        ensures { result
+            ≡ errors.Fault (record { kind = kind; block = self.block; call = self.call }) }
     {
         ReadError::Fault(PlanFault {
             kind,

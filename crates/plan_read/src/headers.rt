@@ -43,11 +43,19 @@ pub struct Head<'a> {
 /// The top of a plan.
 #[tactic(auto, unfolding(crate::specs::own::Walk::top_tests))]
 pub fn read_top<A: Allocator + Copy>(alloc: A, table: &Table) -> Result<Top<'_, A>, ReadError>
-    ensures each { IfOk result (λ t. fits Tables (get_member (codes "block") (table_view table.now)) ≡ true → are_tables (items_view t.tables.now) ≡ true) }
-    ensures count { IfOk result (λ t. length t.tables.now ≡ length (tables_at (codes "block") (table_view table.now))) }
-    ensures tables { IfOk result (λ t. tables_in (items_view t.tables.now) ≡ tables_at (codes "block") (table_view table.now)) }
-    ensures plain { IfOk result (λ t. items_are_plain 3 (items_view t.tables.now) ≡ true → members_are_plain 4 (table_view table.now) ≡ true) }
-    ensures top { Reads (λ t. t.lists.version) result (place_fault top (top_tests (table_view table.now))) (version_at (table_view table.now)) }
+    ensures each { IfOk result
+        (λ t. fits Tables (get_member (codes "block") (table_view table.now)) ≡ true
+        → are_tables (items_view t.tables.now) ≡ true) }
+    ensures count { IfOk result
+        (λ t. length t.tables.now ≡ length (tables_at (codes "block") (table_view table.now))) }
+    ensures tables { IfOk result
+        (λ t. tables_in (items_view t.tables.now)
+        ≡ tables_at (codes "block") (table_view table.now)) }
+    ensures plain { IfOk result
+        (λ t. items_are_plain 3 (items_view t.tables.now) ≡ true
+        → members_are_plain 4 (table_view table.now) ≡ true) }
+    ensures top { Reads (λ t. t.lists.version) result
+        (place_fault top (top_tests (table_view table.now))) (version_at (table_view table.now)) }
 {
     let place = Place::top();
     let mut slots = EMPTY_SLOTS;
@@ -66,7 +74,9 @@ pub fn read_top<A: Allocator + Copy>(alloc: A, table: &Table) -> Result<Top<'_, 
 
 /// The version of a plan, if it is one.
 fn read_version(row: &Row) -> Option<Version>
-    ensures { result ≡ option_and_then version_of (given_integer (codes "version") (table_view row.now.table.now)) }
+    ensures { result
+        ≡ option_and_then version_of
+        (given_integer (codes "version") (table_view row.now.table.now)) }
 {
     match row.integer(KeyName::Version) {
         Some(number) => Version::of_number(number),
@@ -84,11 +94,20 @@ pub fn read_head<'a, A: Allocator>(
     table: &'a Table,
 ) -> Result<Head<'a>, ReadError>
     requires { made ≤ most_calls }
-    ensures each { IfOk result (λ h. fits Tables (get_member (codes "call") (table_view table.now)) ≡ true → are_tables (items_view h.tables.now) ≡ true) }
-    ensures count { IfOk result (λ h. length h.tables.now ≡ length (tables_at (codes "call") (table_view table.now))) }
-    ensures tables { IfOk result (λ h. tables_in (items_view h.tables.now) ≡ tables_at (codes "call") (table_view table.now)) }
-    ensures plain { IfOk result (λ h. items_are_plain 1 (items_view h.tables.now) ≡ true → members_are_plain 2 (table_view table.now) ≡ true) }
-    ensures header { Reads (λ h. h.header) result (place_fault place (header_tests lists.now.version end made (table_view table.now))) (header_of lists.now.version (table_view table.now)) }
+    ensures each { IfOk result
+        (λ h. fits Tables (get_member (codes "call") (table_view table.now)) ≡ true
+        → are_tables (items_view h.tables.now) ≡ true) }
+    ensures count { IfOk result
+        (λ h. length h.tables.now ≡ length (tables_at (codes "call") (table_view table.now))) }
+    ensures tables { IfOk result
+        (λ h. tables_in (items_view h.tables.now)
+        ≡ tables_at (codes "call") (table_view table.now)) }
+    ensures plain { IfOk result
+        (λ h. items_are_plain 1 (items_view h.tables.now) ≡ true
+        → members_are_plain 2 (table_view table.now) ≡ true) }
+    ensures header { Reads (λ h. h.header) result
+        (place_fault place (header_tests lists.now.version end made (table_view table.now)))
+        (header_of lists.now.version (table_view table.now)) }
 {
     let mut slots = EMPTY_SLOTS;
     let row = Row::new(table, &mut slots);
@@ -107,7 +126,12 @@ fn read_block_units<A: Allocator>(
     lists: &KeyLists<A>,
     row: &Row,
 ) -> Result<(Unit, Units), ReadError>
-    ensures { Reads (λ u. u) result (place_fault place (header_key_tests lists.now.version (table_view row.now.table.now))) (unit_at lists.now.version (table_view row.now.table.now), header_units lists.now.version (table_view row.now.table.now)) }
+    ensures { Reads (λ u. u) result
+        (place_fault place (header_key_tests lists.now.version (table_view row.now.table.now))) (
+          unit_at lists.now.version (table_view row.now.table.now),
+          header_units lists.now.version
+              (table_view row.now.table.now),
+        ) }
 {
     lists.check(place, Role::Header, row)?;
     match lists.version {
@@ -122,7 +146,9 @@ fn read_block_units<A: Allocator>(
 /// How often the calls of a block are made.
 #[tactic(auto, unfolding(crate::specs::own::Walk::times_tests))]
 fn read_times(place: Place, row: &Row) -> Result<u32, ReadError>
-    ensures times { Reads (λ n. n) result (place_fault place (times_tests (table_view row.now.table.now))) (delay_units (times_at (table_view row.now.table.now))) }
+    ensures times { Reads (λ n. n) result
+        (place_fault place (times_tests (table_view row.now.table.now)))
+        (delay_units (times_at (table_view row.now.table.now))) }
     ensures most { IfOk result (λ n. n ≤ most_calls) }
 {
     let times = row.integer(KeyName::Times).unwrap_or(1);
@@ -145,7 +171,14 @@ fn read_header(
     times: u32,
     row: &Row,
 ) -> Result<Header, ReadError>
-    ensures { Reads (λ h. h) result (place_fault place (moment_tests end units (table_view row.now.table.now))) (record { at = span_at units.at (codes "at") (table_view row.now.table.now); unit = unit; times = times; every = span_at units.every (codes "every") (table_view row.now.table.now) }) }
+    ensures { Reads (λ h. h) result
+        (place_fault place (moment_tests end units (table_view row.now.table.now)))
+        (record {
+          at = span_at units.at (codes "at") (table_view row.now.table.now);
+          unit = unit;
+          times = times;
+          every = span_at units.every (codes "every") (table_view row.now.table.now);
+        }) }
 {
     let at = row.integer(KeyName::At).unwrap_or(0);
     let every = row.integer(KeyName::Every).unwrap_or(0);
@@ -179,7 +212,9 @@ fn check_count(place: Place, made: u64, times: u32, calls: usize) -> Result<(), 
 
 /// The nanoseconds of a number of units; a negative number counts as 0.
 pub fn read_span(place: Place, value: i64, unit: Unit) -> Result<Span, ReadError>
-    ensures { Reads (λ s. s) result (place_fault place ((kinds.TooLarge barring nat_le (span_of value unit) longest) ∷ [])) (span_of value unit) }
+    ensures { Reads (λ s. s) result
+        (place_fault place ((kinds.TooLarge barring nat_le (span_of value unit) longest) ∷ []))
+        (span_of value unit) }
 {
     match span(value, unit) {
         Ok(span) => Ok(span),

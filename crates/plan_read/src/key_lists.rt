@@ -90,7 +90,9 @@ impl<A: Allocator> KeyLists<A> {
     /// each is of its shape. The first of these that does not hold is the fault.
     #[inline(always)]
     pub fn check(&self, place: Place, role: Role, row: &Row) -> Result<(), ReadError>
-        ensures { Reads (λ u. u) result (place_fault place (table_tests (keys_in self.now.version role) (table_view row.now.table.now))) tt }
+        ensures { Reads (λ u. u) result
+            (place_fault place
+            (table_tests (keys_in self.now.version role) (table_view row.now.table.now))) tt }
     {
         let keys = self.of(role);
         if pass(keys, row) {

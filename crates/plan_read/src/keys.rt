@@ -162,14 +162,20 @@ impl Key {
 
     /// Whether this key is there, or may be left out.
     fn is_met(&self, row: &Row) -> bool
-        ensures { result ≡ (not self.now.required || is_some (get_member (word_of self.now.name) (table_view row.now.table.now))) }
+        ensures { result
+            ≡ (not self.now.required
+            || is_some (get_member (word_of self.now.name) (table_view row.now.table.now))) }
     {
         !self.required || row.has(self.name)
     }
 
     /// Whether this key is there with a value of its shape, or may be left out and is.
     fn holds(&self, row: &Row) -> bool
-        ensures { result ≡ ((not self.now.required || is_some (get_member (word_of self.now.name) (table_view row.now.table.now))) && fits self.now.shape (get_member (word_of self.now.name) (table_view row.now.table.now))) }
+        ensures { result
+            ≡ ((not self.now.required
+            || is_some (get_member (word_of self.now.name) (table_view row.now.table.now)))
+            && fits self.now.shape
+            (get_member (word_of self.now.name) (table_view row.now.table.now))) }
     {
         match row.get(self.name) {
             Some(value) => has_shape(self.shape, value),
@@ -212,7 +218,10 @@ pub fn has_required(keys: &[Key], row: &Row) -> bool
 /// its shape: in one pass, as most tables pass.
 pub fn pass(keys: &[Key], row: &Row) -> bool
     requires { are_apart (as_defined keys.now) ≡ true }
-    ensures { result ≡ (has_only (as_defined keys.now) (table_view row.now.table.now) && (has_required (as_defined keys.now) (table_view row.now.table.now) && are_typed (as_defined keys.now) (table_view row.now.table.now))) }
+    ensures { result
+        ≡ (has_only (as_defined keys.now) (table_view row.now.table.now)
+        && (has_required (as_defined keys.now) (table_view row.now.table.now)
+        && are_typed (as_defined keys.now) (table_view row.now.table.now))) }
 {
     let mut there = 0;
     for key in keys {

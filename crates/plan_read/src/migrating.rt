@@ -31,10 +31,13 @@ use toml::{Table, Value};
 /// is printed is longer than 1,048,576 bytes. `Memory` may come in place of any other answer.
 pub fn migrate<A: HeapAllocator>(alloc: A, text: &[u8]) -> Result<String, PlanFault>
     ensures migrated { IfOk result (λ s. Migrates text.now (string_bytes s)) }
-    ensures only { (printed : List ℕ) → Migrates text.now printed → MatchResult result (λ s. string_bytes s ≡ printed) (λ e. e ≡ out_of_memory) }
+    ensures only { (printed : List ℕ) → Migrates text.now printed
+        → MatchResult result (λ s. string_bytes s ≡ printed) (λ e. e ≡ out_of_memory) }
     ensures fault { IfErr result (λ e. MigrationFails text.now e ⊎ (e ≡ out_of_memory)) }
     ensures faultless { IfOk result (λ s. (fault : PlanFault) → MigrationFails text.now fault → ⊥) }
-    ensures plan { IfOk result (λ s. (plan : PlanTree) × TextWrites text.now plan × TextWrites (string_bytes s) (in_nanoseconds plan)) }
+    ensures plan { IfOk result
+        (λ s. (plan : PlanTree) × TextWrites text.now plan
+        × TextWrites (string_bytes s) (in_nanoseconds plan)) }
 {
     match migrate_text(alloc, text) {
         Ok(migrated) => Ok(migrated),
@@ -139,7 +142,10 @@ fn put_beside(
     unit: &str,
     word: &str,
 ) -> Result<(), AllocError>
-    ensures { OnOk result (table_view table.new ≡ if is_some (get_member time.now (table_view table.old)) then with_member unit.now (string word.now) (table_view table.old) else table_view table.old) }
+    ensures { OnOk result
+        (table_view table.new ≡ if is_some (get_member time.now (table_view table.old))
+        then with_member unit.now (string word.now) (table_view table.old)
+        else table_view table.old) }
 {
     if !table.contains_key(time) {
         return Ok(());
@@ -149,7 +155,8 @@ fn put_beside(
 
 /// Puts a value at a key of a table. `Err` is want of memory.
 fn insert(heap: Global, table: &mut Table, key: &str, value: Value) -> Result<(), AllocError>
-    ensures { OnOk result (table_view table.new ≡ with_member key.now (view value) (table_view table.old)) }
+    ensures { OnOk result
+        (table_view table.new ≡ with_member key.now (view value) (table_view table.old)) }
 {
     let key = String::from_str(heap, key)?;
     drop(table.insert(key, value)?);
@@ -165,7 +172,10 @@ fn change_tables_at<F: Fn(Table) -> Result<Table, AllocError>>(
     change: F,
 ) -> Result<(), AllocError>
     requires { F.IsAlwaysCallable change }
-    ensures { OnOk result ((f : Members → Members) → ((t : _) (r : _) → F.post change t r → IfOk r (λ u. table_view u ≡ f (table_view t))) → table_view table.new ≡ changed_at key.now (each_table f) (table_view table.old)) }
+    ensures { OnOk result
+        ((f : Members → Members)
+        → ((t : _) (r : _) → F.post change t r → IfOk r (λ u. table_view u ≡ f (table_view t)))
+        → table_view table.new ≡ changed_at key.now (each_table f) (table_view table.old)) }
 {
     if let Some(value) = table.get_mut(key) {
         // The value is moved out, to be changed and put back.
@@ -182,7 +192,10 @@ fn with_tables_changed<F: Fn(Table) -> Result<Table, AllocError>>(
     change: F,
 ) -> Result<Value, AllocError>
     requires { F.IsAlwaysCallable change }
-    ensures { IfOk result (λ v. (f : Members → Members) → ((t : _) (r : _) → F.post change t r → IfOk r (λ u. table_view u ≡ f (table_view t))) → view v ≡ each_table f (view value)) }
+    ensures { IfOk result
+        (λ v. (f : Members → Members)
+        → ((t : _) (r : _) → F.post change t r → IfOk r (λ u. table_view u ≡ f (table_view t)))
+        → view v ≡ each_table f (view value)) }
 {
     let Value::Array(items) = value else {
         return Ok(value);

@@ -32,7 +32,8 @@ use toml::{Table, Value};
 /// it has block 0 and call 0.
 pub fn read_plan<A: HeapAllocator>(alloc: A, text: &[u8]) -> Result<Plan<A>, PlanFault>
     ensures plan { IfOk result (λ p. TextWrites text.now p) }
-    ensures only { (plan : PlanTree) → TextWrites text.now plan → MatchResult result (λ p. p ≡ plan) (λ e. e ≡ out_of_memory) }
+    ensures only { (plan : PlanTree) → TextWrites text.now plan
+        → MatchResult result (λ p. p ≡ plan) (λ e. e ≡ out_of_memory) }
     ensures fault { IfErr result (λ e. TextFails text.now e ⊎ (e ≡ out_of_memory)) }
 {
     match read_text(alloc, text) {
@@ -56,7 +57,9 @@ fn read_text<A: HeapAllocator>(alloc: A, text: &[u8]) -> Result<Plan<A>, ReadErr
 
 /// The tree of a text, which is no longer than a plan's may be.
 pub fn read_document(heap: Global, text: &[u8]) -> Result<Table, ReadError>
-    ensures { Reads (λ t. table_view t) result (place_fault top (length_tests text.now) or_else place_fault top (toml_tests text.now)) (tree_at text.now) }
+    ensures { Reads (λ t. table_view t) result
+        (place_fault top (length_tests text.now) or_else place_fault top (toml_tests text.now))
+        (tree_at text.now) }
 {
     if text.len() > LONGEST_TEXT {
         return Err(Place::top().fault(PlanFaultKind::TooLong));
@@ -66,7 +69,8 @@ pub fn read_document(heap: Global, text: &[u8]) -> Result<Table, ReadError>
 
 /// The tree of a text.
 fn parse(heap: Global, text: &[u8]) -> Result<Table, ReadError>
-    ensures { Reads (λ t. table_view t) result (place_fault top (toml_tests text.now)) (tree_at text.now) }
+    ensures { Reads (λ t. table_view t) result (place_fault top (toml_tests text.now))
+        (tree_at text.now) }
 {
     match toml::table_from_slice(heap, text) {
         Ok(table) => Ok(table),
@@ -88,7 +92,8 @@ pub struct Written<A: Allocator> {
 
 /// The plan that a tree writes, with its version, or the fault of the tree.
 pub fn read_tree<A: Allocator + Copy>(alloc: A, table: &Table) -> Result<Written<A>, ReadError>
-    ensures plan { Reads (λ w. w.plan) result (tree_fault (table_view table.now)) (plan_of (table_view table.now)) }
+    ensures plan { Reads (λ w. w.plan) result (tree_fault (table_view table.now))
+        (plan_of (table_view table.now)) }
     ensures version { IfOk result (λ w. w.version ≡ version_at (table_view table.now)) }
     ensures plain { IfOk result (λ w. members_are_plain 4 (table_view table.now) ≡ true) }
 {
@@ -110,7 +115,9 @@ fn read_blocks<A: Allocator + Copy>(
     requires tables { are_tables (items_view tables.now) ≡ true }
     requires few { length tables.now ≤ most_blocks }
     ensures plain { IfOk result (λ v. items_are_plain 3 (items_view tables.now) ≡ true) }
-    ensures blocks { Reads (λ v. v.items) result (blocks_fault lists.now.version [] (tables_in (items_view tables.now))) (blocks_through lists.now.version [] (tables_in (items_view tables.now))) }
+    ensures blocks { Reads (λ v. v.items) result
+        (blocks_fault lists.now.version [] (tables_in (items_view tables.now)))
+        (blocks_through lists.now.version [] (tables_in (items_view tables.now))) }
 {
     let mut blocks = Vec::with_capacity(alloc, tables.len())?;
     let mut names = BTreeMap::new(alloc);
@@ -145,8 +152,11 @@ fn read_block<'a, A: Allocator + Copy>(
     requires made { made ≡ made_by earlier.now }
     requires few { made ≤ most_calls }
     requires names { Knows names.old (submissions_from 0 earlier.now) }
-    ensures block { Reads (λ b. b) result (block_fault lists.now.version earlier.now (table_view table.now)) (block_of lists.now.version earlier.now (table_view table.now)) }
-    ensures names { IfOk result (λ b. Knows names.new (submissions_from 0 (earlier.now ++ b ∷ []))) }
+    ensures block { Reads (λ b. b) result
+        (block_fault lists.now.version earlier.now (table_view table.now))
+        (block_of lists.now.version earlier.now (table_view table.now)) }
+    ensures names { IfOk result
+        (λ b. Knows names.new (submissions_from 0 (earlier.now ++ b ∷ []))) }
     ensures plain { IfOk result (λ b. members_are_plain 2 (table_view table.now) ≡ true) }
     ensures times { IfOk result (λ b. 1 ≤ b.header.times) }
     ensures few { IfOk result (λ b. made + b.header.times * length b.calls ≤ most_calls) }
@@ -185,8 +195,12 @@ fn read_calls<'a, A: Allocator + Copy>(
     requires tables { are_tables (items_view tables.now) ≡ true }
     requires few { length tables.now ≤ most_block_calls }
     requires names { Knows names.old (submissions_from 0 earlier.now) }
-    ensures calls { Reads (λ v. v.items) result (calls_fault lists.now.version earlier.now header [] (tables_in (items_view tables.now))) (calls_through lists.now.version earlier.now header [] (tables_in (items_view tables.now))) }
-    ensures names { IfOk result (λ v. Knows names.new (submissions_before earlier.now header v.items)) }
+    ensures calls { Reads (λ v. v.items) result
+        (calls_fault lists.now.version earlier.now header [] (tables_in (items_view tables.now)))
+        (calls_through lists.now.version earlier.now header []
+        (tables_in (items_view tables.now))) }
+    ensures names { IfOk result
+        (λ v. Knows names.new (submissions_before earlier.now header v.items)) }
     ensures count { IfOk result (λ v. length v.items ≡ length tables.now) }
     ensures plain { IfOk result (λ v. items_are_plain 1 (items_view tables.now) ≡ true) }
 {
@@ -221,8 +235,11 @@ fn read_next<'a, A: Allocator + Copy>(
     requires few { length before.now < most_block_calls }
     requires sub { sub ≡ tasks_after_calls 0 before.now }
     requires names { Knows names.old (submissions_before earlier.now header before.now) }
-    ensures call { Reads (λ c. c) result (call_fault lists.now.version earlier.now header before.now (table_view table.now)) (next_call lists.now.version earlier.now header before.now (table_view table.now)) }
-    ensures names { IfOk result (λ c. Knows names.new (submissions_before earlier.now header (before.now ++ c ∷ []))) }
+    ensures call { Reads (λ c. c) result
+        (call_fault lists.now.version earlier.now header before.now (table_view table.now))
+        (next_call lists.now.version earlier.now header before.now (table_view table.now)) }
+    ensures names { IfOk result
+        (λ c. Knows names.new (submissions_before earlier.now header (before.now ++ c ∷ []))) }
     ensures plain { IfOk result (λ c. members_are_plain 0 (table_view table.now) ≡ true) }
 {
     let block = earlier.len();

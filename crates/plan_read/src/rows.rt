@@ -46,7 +46,8 @@ impl<'a, 's> Row<'a, 's> {
 
     /// The value at a key.
     pub fn get(&self, name: KeyName) -> Option<&'a Value>
-        ensures { option_map (λ v. view v.now) result ≡ get_member (word_of name) (table_view self.now.table.now) }
+        ensures { option_map (λ v. view v.now) result
+            ≡ get_member (word_of name) (table_view self.now.table.now) }
     {
         let slots = self.slots;
         slots[name.place()]
@@ -114,10 +115,14 @@ impl<'a, 's> Row<'a, 's> {
     /// The tables of the array at a key, none where there is no array.
     #[tactic(auto, using(crate::proofs::TableTests::count_of_tables))]
     pub fn tables(&self, name: KeyName) -> &'a [Value]
-        ensures items { items_view result.now ≡ items_at (word_of name) (table_view self.now.table.now) }
-        ensures tables { tables_in (items_view result.now) ≡ tables_at (word_of name) (table_view self.now.table.now) }
-        ensures count { length result.now ≡ length (tables_at (word_of name) (table_view self.now.table.now)) }
-        ensures each { fits Tables (get_member (word_of name) (table_view self.now.table.now)) ≡ true → are_tables (items_view result.now) ≡ true }
+        ensures items { items_view result.now
+            ≡ items_at (word_of name) (table_view self.now.table.now) }
+        ensures tables { tables_in (items_view result.now)
+            ≡ tables_at (word_of name) (table_view self.now.table.now) }
+        ensures count { length result.now
+            ≡ length (tables_at (word_of name) (table_view self.now.table.now)) }
+        ensures each { fits Tables (get_member (word_of name) (table_view self.now.table.now))
+            ≡ true → are_tables (items_view result.now) ≡ true }
     {
         match self.get(name) {
             Some(value) => match value.as_array() {

@@ -35,7 +35,9 @@ pub fn add<'a, A: Allocator + Copy>(
     site: Site,
 ) -> Result<Option<Site>, ReadError>
     ensures found { IfOk result (λ found. found ≡ found_in names.old name.now) }
-    ensures added { OnOk result ((q : List ℕ) → found_in names.new q ≡ if bytes_eq name.now q then Some site else found_in names.old q) }
+    ensures added { OnOk result
+        ((q : List ℕ)
+        → found_in names.new q ≡ if bytes_eq name.now q then Some site else found_in names.old q) }
     ensures memory { IfErr result (λ e. e ≡ errors.Memory) }
 {
     Ok(names.insert(name, site)?)

@@ -42,8 +42,17 @@ pub fn read_subject<'a, A: Allocator + Copy>(
     row: &Row<'a, '_>,
 ) -> Result<Subject, ReadError>
     requires { AreGiven verb (table_view row.now.table.now) }
-    ensures subject { Reads (λ s. s) result (place_fault place (name_tests verb (found_in names.old (name_at (table_view row.now.table.now))) site.target.block (table_view row.now.table.now))) (subject_of verb (found_in names.old (name_at (table_view row.now.table.now))) (table_view row.now.table.now)) }
-    ensures names { OnOk result ((q : List ℕ) → found_in names.new q ≡ if submits verb && bytes_eq (name_at (table_view row.now.table.now)) q then Some site else found_in names.old q) }
+    ensures subject { Reads (λ s. s) result
+        (place_fault place
+        (name_tests verb (found_in names.old (name_at (table_view row.now.table.now)))
+        site.target.block (table_view row.now.table.now)))
+        (subject_of verb (found_in names.old (name_at (table_view row.now.table.now)))
+        (table_view row.now.table.now)) }
+    ensures names { OnOk result
+        ((q : List ℕ)
+        → found_in names.new q
+        ≡ if submits verb && bytes_eq (name_at (table_view row.now.table.now)) q then Some site
+        else found_in names.old q) }
 {
     match verb {
         Verb::Schedule => Ok(Subject::Schedule(read_new_name(place, site, names, row)?)),
@@ -66,8 +75,14 @@ fn read_new_name<'a, A: Allocator + Copy>(
     row: &Row<'a, '_>,
 ) -> Result<Name, ReadError>
     requires { is_some (given_text (codes "name") (table_view row.now.table.now)) ≡ true }
-    ensures name { Reads (λ n. n) result (place_fault place (new_name_tests (found_in names.old (name_at (table_view row.now.table.now))) (table_view row.now.table.now))) (name_at (table_view row.now.table.now)) }
-    ensures names { OnOk result ((q : List ℕ) → found_in names.new q ≡ if bytes_eq (name_at (table_view row.now.table.now)) q then Some site else found_in names.old q) }
+    ensures name { Reads (λ n. n) result
+        (place_fault place
+        (new_name_tests (found_in names.old (name_at (table_view row.now.table.now)))
+        (table_view row.now.table.now))) (name_at (table_view row.now.table.now)) }
+    ensures names { OnOk result
+        ((q : List ℕ)
+        → found_in names.new q ≡ if bytes_eq (name_at (table_view row.now.table.now)) q
+        then Some site else found_in names.old q) }
 {
     let name = row.required_text(KeyName::Name);
     if !is_name(name) {
@@ -87,7 +102,11 @@ fn read_target<'a, A: Allocator + Copy>(
     row: &Row<'a, '_>,
 ) -> Result<Target, ReadError>
     requires { is_some (given_text (codes "name") (table_view row.now.table.now)) ≡ true }
-    ensures { Reads (λ t. t) result (place_fault place (known_name_tests (found_in names.now (name_at (table_view row.now.table.now))) block (table_view row.now.table.now))) (target_of (found_in names.now (name_at (table_view row.now.table.now)))) }
+    ensures { Reads (λ t. t) result
+        (place_fault place
+        (known_name_tests (found_in names.now (name_at (table_view row.now.table.now))) block
+        (table_view row.now.table.now)))
+        (target_of (found_in names.now (name_at (table_view row.now.table.now)))) }
 {
     let name = row.required_text(KeyName::Name);
     if !is_name(name) {

@@ -63,7 +63,10 @@ pub fn read_unit(
     name: KeyName,
     row: &Row,
 ) -> Result<Unit, ReadError>
-    ensures { Reads (λ u. u) result (place_fault place ((kinds.BadUnit barring is_unit version (word_of name) (table_view row.now.table.now)) ∷ [])) (unit_or version (word_of name) (table_view row.now.table.now)) }
+    ensures { Reads (λ u. u) result
+        (place_fault place
+        ((kinds.BadUnit barring is_unit version (word_of name) (table_view row.now.table.now))
+        ∷ [])) (unit_or version (word_of name) (table_view row.now.table.now)) }
 {
     match unit_of_word(version, row.text(name).unwrap_or("ns")) {
         Some(unit) => Ok(unit),
@@ -97,7 +100,10 @@ impl Units {
 
     /// The units that stand beside the times of a table, in version 2.
     pub fn read(place: Place, row: &Row) -> Result<Units, ReadError>
-        ensures { Reads (λ u. u) result (place_fault place ((kinds.BadUnit barring are_units Two (table_view row.now.table.now)) ∷ [])) (units_beside (table_view row.now.table.now)) }
+        ensures { Reads (λ u. u) result
+            (place_fault place
+            ((kinds.BadUnit barring are_units Two (table_view row.now.table.now)) ∷ []))
+            (units_beside (table_view row.now.table.now)) }
     {
         let at = read_unit(place, Version::Two, KeyName::AtUnit, row)?;
         let every = read_unit(place, Version::Two, KeyName::EveryUnit, row)?;

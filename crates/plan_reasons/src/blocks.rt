@@ -46,7 +46,9 @@ impl<'t> Scene<'t> {
     /// What is told of a fault of a header. `Err` is want of memory.
     pub fn header_detail(&self, header: &'t Table) -> Result<Detail<'t>, AllocError>
         ensures at { IfOk result (IsIn (table_view header.now)) }
-        ensures suits { IfOk result (Suits self.now.fault.kind (header_keys (plan_version self.now.version)) (table_view header.now)) }
+        ensures suits { IfOk result
+            (Suits self.now.fault.kind (header_keys (plan_version self.now.version))
+            (table_view header.now)) }
     {
         let keys = header_keys(self.version);
         match self.fault.kind {
@@ -81,7 +83,8 @@ impl<'t> Scene<'t> {
     /// That a `times` is out of its range.
     fn bad_times(&self, header: &'t Table) -> Detail<'t>
         ensures at { IsIn (table_view header.now) result }
-        ensures suits { (version : Version) → Suits BadTimes (header_keys version) (table_view header.now) result }
+        ensures suits { (version : Version)
+            → Suits BadTimes (header_keys version) (table_view header.now) result }
     {
         let wanted = Wanted::Number {
             least: Some(1),
@@ -94,7 +97,8 @@ impl<'t> Scene<'t> {
     /// That an `every` is missing.
     fn missing_every(&self, header: &'t Table) -> Detail<'t>
         ensures at { IsIn (table_view header.now) result }
-        ensures suits { (version : Version) → Suits Missing (header_keys version) (table_view header.now) result }
+        ensures suits { (version : Version)
+            → Suits Missing (header_keys version) (table_view header.now) result }
     {
         if value_at(header, "every").is_some() {
             return self.at_place();
@@ -106,7 +110,9 @@ impl<'t> Scene<'t> {
     /// That the `at` of a table, in a block with this header, is before a moment or an offset in nanoseconds.
     pub fn not_before(&self, header: &Table, table: &'t Table, nanos: u128) -> Detail<'t>
         ensures at { IsIn (table_view table.now) result }
-        ensures suits { (kind : PlanFaultKind) (keys : List Key) → FitsKey kind keys (table_view table.now) (codes "at") → Suits kind keys (table_view table.now) result }
+        ensures suits { (kind : PlanFaultKind) (keys : List Key)
+            → FitsKey kind keys (table_view table.now) (codes "at")
+            → Suits kind keys (table_view table.now) result }
     {
         let unit = self.unit(header, table, "at");
         let least = nanos.div_ceil(u128::from(unit.nanos()));
@@ -133,7 +139,8 @@ impl<'t> Scene<'t> {
     /// That there are too many calls: in the block, or in all.
     fn too_many_calls(&self, header: &'t Table) -> Detail<'t>
         ensures at { IsIn (table_view header.now) result }
-        ensures suits { (version : Version) → Suits TooMany (header_keys version) (table_view header.now) result }
+        ensures suits { (version : Version)
+            → Suits TooMany (header_keys version) (table_view header.now) result }
     {
         let count = tables_at(header, "call").len();
         if count > MOST_BLOCK_CALLS {

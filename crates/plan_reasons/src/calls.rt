@@ -25,7 +25,10 @@ impl<'t> Scene<'t> {
     /// What is told of a fault of a call, in a block with this header. `Err` is want of memory.
     pub fn call_detail(&self, header: &'t Table, call: &'t Table) -> Result<Detail<'t>, AllocError>
         ensures at { IfOk result (IsIn (table_view call.now)) }
-        ensures suits { IfOk result (Suits self.now.fault.kind (call_keys (plan_version self.now.version) (operation_of (table_view call.now))) (table_view call.now)) }
+        ensures suits { IfOk result
+            (Suits self.now.fault.kind
+            (call_keys (plan_version self.now.version) (operation_of (table_view call.now)))
+            (table_view call.now)) }
     {
         let word = text_at(call, "op").unwrap_or("");
         let keys = operation_keys(self.version, call);
@@ -50,7 +53,8 @@ impl<'t> Scene<'t> {
     /// That a time is too long, or that the call is made too late in the last iteration.
     fn too_far(&self, header: &'t Table, call: &'t Table) -> Detail<'t>
         ensures at { IsIn (table_view call.now) result }
-        ensures suits { (version : Version) (verb : Verb) → Suits TooLarge (call_keys version verb) (table_view call.now) result }
+        ensures suits { (version : Version) (verb : Verb)
+            → Suits TooLarge (call_keys version verb) (table_view call.now) result }
     {
         match self.too_large(header, call, TIMES) {
             Some(detail) => detail,
@@ -64,7 +68,8 @@ impl<'t> Scene<'t> {
     /// That an offset is below that of the call before, or behind the next iteration.
     fn unordered(&self, header: &'t Table, call: &'t Table) -> Detail<'t>
         ensures at { IsIn (table_view call.now) result }
-        ensures suits { (version : Version) (verb : Verb) → Suits OutOfOrder (call_keys version verb) (table_view call.now) result }
+        ensures suits { (version : Version) (verb : Verb)
+            → Suits OutOfOrder (call_keys version verb) (table_view call.now) result }
     {
         let before = self.offset_before(header);
         if self.nanos(header, call, "at") < before {

@@ -28,12 +28,15 @@ use toml::Table;
 /// says nothing of the text.
 pub fn reason_of<A: HeapAllocator>(alloc: A, text: &[u8]) -> Option<Reason>
     ensures fine { IfNone result ((plan : PlanTree) × TextWrites text.now plan) }
-    ensures only { (plan : PlanTree) → TextWrites text.now plan → IfSome result (λ r. r.fault ≡ out_of_memory) }
+    ensures only { (plan : PlanTree) → TextWrites text.now plan
+        → IfSome result (λ r. r.fault ≡ out_of_memory) }
     ensures fault { IfSome result (λ r. TextFails text.now r.fault ⊎ (r.fault ≡ out_of_memory)) }
     ensures line { IfSome result (λ r. IfSome r.line (IsLineOf text.now)) }
     ensures column { IfSome result (IsPlacedIn text.now) }
-    ensures key { IfSome result (λ r. (tree : Members) → parse_document text.now ≡ Some tree → IsAtKey tree r) }
-    ensures kind { IfSome result (λ r. (tree : Members) → parse_document text.now ≡ Some tree → IsAtKeyOfKind tree r) }
+    ensures key { IfSome result
+        (λ r. (tree : Members) → parse_document text.now ≡ Some tree → IsAtKey tree r) }
+    ensures kind { IfSome result
+        (λ r. (tree : Members) → parse_document text.now ≡ Some tree → IsAtKeyOfKind tree r) }
     ensures bare { IfSome result (λ r. r.key ≡ None → r.found ≡ Nothing) }
 {
     match read_plan(alloc, text) {
@@ -48,7 +51,8 @@ fn reason_of_fault(heap: Global, text: &[u8], fault: PlanFault) -> Reason
     ensures line { IfSome result.line (IsLineOf text.now) }
     ensures column { IsPlacedIn text.now result }
     ensures key { (tree : Members) → parse_document text.now ≡ Some tree → IsAtKey tree result }
-    ensures kind { (tree : Members) → parse_document text.now ≡ Some tree → IsAtKeyOfKind tree result }
+    ensures kind { (tree : Members) → parse_document text.now ≡ Some tree
+        → IsAtKeyOfKind tree result }
     ensures bare { result.key ≡ None → result.found ≡ Nothing }
 {
     match try_reason(heap, text, fault) {
@@ -62,8 +66,10 @@ fn try_reason(heap: Global, text: &[u8], fault: PlanFault) -> Result<Reason, All
     ensures fault { IfOk result (λ r. r.fault ≡ fault) }
     ensures line { IfOk result (λ r. IfSome r.line (IsLineOf text.now)) }
     ensures column { IfOk result (IsPlacedIn text.now) }
-    ensures key { IfOk result (λ r. (tree : Members) → parse_document text.now ≡ Some tree → IsAtKey tree r) }
-    ensures kind { IfOk result (λ r. (tree : Members) → parse_document text.now ≡ Some tree → IsAtKeyOfKind tree r) }
+    ensures key { IfOk result
+        (λ r. (tree : Members) → parse_document text.now ≡ Some tree → IsAtKey tree r) }
+    ensures kind { IfOk result
+        (λ r. (tree : Members) → parse_document text.now ≡ Some tree → IsAtKeyOfKind tree r) }
     ensures bare { IfOk result (λ r. r.key ≡ None → r.found ≡ Nothing) }
 {
     match fault.kind {
@@ -104,8 +110,11 @@ fn reason_in_tree(
 
 /// What is told of a fault. `Err` is want of memory.
 fn detail<'t>(scene: &Scene<'t>) -> Result<Detail<'t>, AllocError>
-    ensures at { IfOk result (IsInPlace (table_view scene.now.tree.now) scene.now.fault.block scene.now.fault.call) }
-    ensures suits { IfOk result (SuitsPlace scene.now.fault.kind (plan_version scene.now.version) (table_view scene.now.tree.now) scene.now.fault.block scene.now.fault.call) }
+    ensures at { IfOk result
+        (IsInPlace (table_view scene.now.tree.now) scene.now.fault.block scene.now.fault.call) }
+    ensures suits { IfOk result
+        (SuitsPlace scene.now.fault.kind (plan_version scene.now.version)
+        (table_view scene.now.tree.now) scene.now.fault.block scene.now.fault.call) }
 {
     let PlanFault { block, call, .. } = scene.fault;
     if block == 0 {

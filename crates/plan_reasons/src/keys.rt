@@ -200,7 +200,8 @@ pub fn has_key(keys: &[Key], name: &str) -> bool
 
 /// The keys of a call by its operation; those of `ask` where it has none.
 pub fn operation_keys(version: Version, call: &Table) -> &'static [Key]
-    ensures { plan_keys result.now ≡ call_keys (plan_version version) (operation_of (table_view call.now)) }
+    ensures { plan_keys result.now
+        ≡ call_keys (plan_version version) (operation_of (table_view call.now)) }
 {
     match text_at(call, "op") {
         Some(word) if is_operation(word) => call_keys(version, word),
@@ -210,7 +211,8 @@ pub fn operation_keys(version: Version, call: &Table) -> &'static [Key]
 
 /// The keys of a call with the operation of this word; none where the word is that of no operation.
 pub fn call_keys(version: Version, word: &str) -> &'static [Key]
-    ensures { MatchOption (verb_of_word word.now) (plan_keys result.now ≡ []) (λ verb. plan_keys result.now ≡ call_keys (plan_version version) verb) }
+    ensures { MatchOption (verb_of_word word.now) (plan_keys result.now ≡ [])
+        (λ verb. plan_keys result.now ≡ call_keys (plan_version version) verb) }
 {
     match version {
         Version::One => call_keys_1(word),
@@ -227,7 +229,8 @@ pub fn is_operation(word: &str) -> bool
 
 /// The keys of a call of version 1 with the operation of this word.
 fn call_keys_1(word: &str) -> &'static [Key]
-    ensures { MatchOption (verb_of_word word.now) (plan_keys result.now ≡ []) (λ verb. plan_keys result.now ≡ call_keys One verb) }
+    ensures { MatchOption (verb_of_word word.now) (plan_keys result.now ≡ [])
+        (λ verb. plan_keys result.now ≡ call_keys One verb) }
 {
     match word {
         "schedule" => SCHEDULE_1,
@@ -242,7 +245,8 @@ fn call_keys_1(word: &str) -> &'static [Key]
 
 /// The keys of a call of version 2 with the operation of this word.
 fn call_keys_2(word: &str) -> &'static [Key]
-    ensures { MatchOption (verb_of_word word.now) (plan_keys result.now ≡ []) (λ verb. plan_keys result.now ≡ call_keys Two verb) }
+    ensures { MatchOption (verb_of_word word.now) (plan_keys result.now ≡ [])
+        (λ verb. plan_keys result.now ≡ call_keys Two verb) }
 {
     match word {
         "schedule" => SCHEDULE_2,

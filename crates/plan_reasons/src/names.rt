@@ -29,7 +29,8 @@ impl<'t> Scene<'t> {
     /// What is told of a fault of a call's name. `Err` is want of memory.
     pub fn name_detail(&self, call: &'t Table) -> Result<Detail<'t>, AllocError>
         ensures at { IfOk result (IsIn (table_view call.now)) }
-        ensures suits { (keys : List Key) → IfOk result (Suits self.now.fault.kind keys (table_view call.now)) }
+        ensures suits { (keys : List Key)
+            → IfOk result (Suits self.now.fault.kind keys (table_view call.now)) }
     {
         let Some(name) = text_at(call, "name") else {
             return Ok(self.at_place());

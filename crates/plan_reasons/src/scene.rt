@@ -56,7 +56,8 @@ impl<'t> Scene<'t> {
 
     /// The table of a block, numbered from 1.
     pub fn block(&self, number: u32) -> Option<&'t Table>
-        ensures { option_map (λ t. table_view t.now) result ≡ block_table (table_view self.now.tree.now) number }
+        ensures { option_map (λ t. table_view t.now) result
+            ≡ block_table (table_view self.now.tree.now) number }
     {
         table_in(tables_at(self.tree, "block"), number)
     }
@@ -64,7 +65,9 @@ impl<'t> Scene<'t> {
     /// What is told where the fault is at a key of a table, which is that of its place.
     pub fn at_key(&self, table: &'t Table, key: &'t str, wanted: Wanted) -> Detail<'t>
         ensures at { IsIn (table_view table.now) result }
-        ensures suits { (kind : PlanFaultKind) (keys : List Key) → FitsKey kind keys (table_view table.now) key.now → Suits kind keys (table_view table.now) result }
+        ensures suits { (kind : PlanFaultKind) (keys : List Key)
+            → FitsKey kind keys (table_view table.now) key.now
+            → Suits kind keys (table_view table.now) result }
     {
         let value = value_at(table, key);
         Detail {
@@ -77,7 +80,9 @@ impl<'t> Scene<'t> {
     /// What is told where the fault is at a key of a table that stands there. No key is told where it is missing.
     pub fn at_standing(&self, table: &'t Table, key: &'t str, wanted: Wanted) -> Detail<'t>
         ensures at { IsIn (table_view table.now) result }
-        ensures suits { (kind : PlanFaultKind) (keys : List Key) → may_be_at kind (is_key keys key.now) true ≡ true → Suits kind keys (table_view table.now) result }
+        ensures suits { (kind : PlanFaultKind) (keys : List Key)
+            → may_be_at kind (is_key keys key.now) true ≡ true
+            → Suits kind keys (table_view table.now) result }
     {
         if value_at(table, key).is_some() {
             self.at_key(table, key, wanted)
@@ -102,8 +107,12 @@ impl<'t> Scene<'t> {
         ensures fault { IfOk result (λ r. r.fault ≡ self.now.fault) }
         ensures line { IfOk result (λ r. IfSome r.line (IsLineOf self.now.text.now)) }
         ensures column { IfOk result (λ r. r.column ≡ None) }
-        ensures key { (tree : Members) → IsInPlace tree self.now.fault.block self.now.fault.call detail.entry → IfOk result (IsAtKey tree) }
-        ensures kind { (tree : Members) (version : PlanVersion) → HasKeysOf version tree → SuitsPlace self.now.fault.kind version tree self.now.fault.block self.now.fault.call detail.entry → IfOk result (IsAtKeyOfKind tree) }
+        ensures key { (tree : Members)
+            → IsInPlace tree self.now.fault.block self.now.fault.call detail.entry
+            → IfOk result (IsAtKey tree) }
+        ensures kind { (tree : Members) (version : PlanVersion) → HasKeysOf version tree
+            → SuitsPlace self.now.fault.kind version tree self.now.fault.block self.now.fault.call
+            detail.entry → IfOk result (IsAtKeyOfKind tree) }
         ensures bare { IfOk result (λ r. r.key ≡ None → r.found ≡ Nothing) }
     {
         let Detail { at, wanted, place } = detail;
@@ -162,7 +171,8 @@ pub fn unit_key(key: &str) -> &'static str {
 
 /// The value at a key, if there is one.
 pub fn value_at<'t>(table: &'t Table, key: &str) -> Option<&'t Value>
-    ensures value { option_map (λ v. view v.now) result ≡ get_member key.now (table_view table.now) }
+    ensures value { option_map (λ v. view v.now) result
+        ≡ get_member key.now (table_view table.now) }
     ensures stands { is_some result ≡ is_some (get_member key.now (table_view table.now)) }
 {
     table.get(key)
@@ -183,7 +193,8 @@ pub fn tables_at<'t>(table: &'t Table, key: &str) -> &'t [Value]
 
 /// The table of this number, counted from 1, in an array.
 pub fn table_in(tables: &[Value], number: u32) -> Option<&Table>
-    ensures { option_map (λ t. table_view t.now) result ≡ numbered_table number (items_view tables.now) }
+    ensures { option_map (λ t. table_view t.now) result
+        ≡ numbered_table number (items_view tables.now) }
 {
     let number = number as usize;
     if number == 0 || tables.len() < number {
@@ -194,8 +205,10 @@ pub fn table_in(tables: &[Value], number: u32) -> Option<&Table>
 
 /// The integer at a key, if there is one.
 pub fn integer_at(table: &Table, key: &str) -> Option<i64>
-    ensures value { result ≡ option_and_then as_integer (get_member key.now (table_view table.now)) }
-    ensures stands { IfSome result (λ _. is_some (get_member key.now (table_view table.now)) ≡ true) }
+    ensures value { result
+        ≡ option_and_then as_integer (get_member key.now (table_view table.now)) }
+    ensures stands { IfSome result
+        (λ _. is_some (get_member key.now (table_view table.now)) ≡ true) }
 {
     match value_at(table, key) {
         Some(value) => value.as_integer(),
@@ -205,8 +218,10 @@ pub fn integer_at(table: &Table, key: &str) -> Option<i64>
 
 /// The text at a key, if there is one.
 pub fn text_at<'t>(table: &'t Table, key: &str) -> Option<&'t str>
-    ensures value { option_copied result ≡ option_and_then as_str (get_member key.now (table_view table.now)) }
-    ensures stands { IfSome result (λ _. is_some (get_member key.now (table_view table.now)) ≡ true) }
+    ensures value { option_copied result
+        ≡ option_and_then as_str (get_member key.now (table_view table.now)) }
+    ensures stands { IfSome result
+        (λ _. is_some (get_member key.now (table_view table.now)) ≡ true) }
 {
     match value_at(table, key) {
         Some(value) => value.as_str(),

@@ -37,7 +37,9 @@ impl<'t> Scene<'t> {
         words: &[&'static str],
     ) -> Result<Detail<'t>, AllocError>
         ensures at { IfOk result (IsIn (table_view table.now)) }
-        ensures suits { (kind : PlanFaultKind) (keys : List PlanKey) → FitsKey kind keys (table_view table.now) key.now → IfOk result (Suits kind keys (table_view table.now)) }
+        ensures suits { (kind : PlanFaultKind) (keys : List PlanKey)
+            → FitsKey kind keys (table_view table.now) key.now
+            → IfOk result (Suits kind keys (table_view table.now)) }
     {
         let near = match text_at(table, key) {
             Some(word) => meant(self.heap, word, words)?,
@@ -100,7 +102,9 @@ impl<'t> Scene<'t> {
     /// That a value of its shape is wanted at a key. `Err` is want of memory.
     fn wanted(&self, table: &'t Table, key: &Key) -> Result<Detail<'t>, AllocError>
         ensures at { IfOk result (IsIn (table_view table.now)) }
-        ensures suits { (kind : PlanFaultKind) (keys : List PlanKey) → FitsKey kind keys (table_view table.now) key.now.name.now → IfOk result (Suits kind keys (table_view table.now)) }
+        ensures suits { (kind : PlanFaultKind) (keys : List PlanKey)
+            → FitsKey kind keys (table_view table.now) key.now.name.now
+            → IfOk result (Suits kind keys (table_view table.now)) }
     {
         match key.shape {
             Shape::Policy => self.no_word(table, key.name, POLICIES),
@@ -111,7 +115,8 @@ impl<'t> Scene<'t> {
     /// That the text at the first key of a unit is none. `Err` is want of memory.
     pub fn bad_unit(&self, table: &'t Table) -> Result<Detail<'t>, AllocError>
         ensures at { IfOk result (IsIn (table_view table.now)) }
-        ensures suits { (keys : List PlanKey) → IfOk result (Suits BadUnit keys (table_view table.now)) }
+        ensures suits { (keys : List PlanKey)
+            → IfOk result (Suits BadUnit keys (table_view table.now)) }
     {
         for key in UNIT_KEYS {
             let Some(word) = text_at(table, key) else {
@@ -148,7 +153,8 @@ impl<'t> Scene<'t> {
         keys: &[&'t str],
     ) -> Option<Detail<'t>>
         ensures at { IfSome result (IsIn (table_view table.now)) }
-        ensures suits { (all : List PlanKey) → IfSome result (Suits TooLarge all (table_view table.now)) }
+        ensures suits { (all : List PlanKey)
+            → IfSome result (Suits TooLarge all (table_view table.now)) }
     {
         for key in keys {
             let Some(number) = integer_at(table, key) else {
@@ -164,7 +170,9 @@ impl<'t> Scene<'t> {
     /// That a time in its range is wanted at a key, in a block with this header.
     fn at_time(&self, header: &Table, table: &'t Table, key: &'t str) -> Detail<'t>
         ensures at { IsIn (table_view table.now) result }
-        ensures suits { (kind : PlanFaultKind) (keys : List PlanKey) → FitsKey kind keys (table_view table.now) key.now → Suits kind keys (table_view table.now) result }
+        ensures suits { (kind : PlanFaultKind) (keys : List PlanKey)
+            → FitsKey kind keys (table_view table.now) key.now
+            → Suits kind keys (table_view table.now) result }
     {
         let unit = self.unit(header, table, key);
         let least = match key {

@@ -122,7 +122,8 @@ impl<'t> Scene<'t> {
     /// What is told of a fault of the top. `Err` is want of memory.
     pub fn top_detail(&self) -> Result<Detail<'t>, AllocError>
         ensures at { IfOk result (IsIn (table_view self.now.tree.now)) }
-        ensures suits { IfOk result (Suits self.now.fault.kind top_keys (table_view self.now.tree.now)) }
+        ensures suits { IfOk result
+            (Suits self.now.fault.kind top_keys (table_view self.now.tree.now)) }
     {
         match self.fault.kind {
             PlanFaultKind::Version => self.no_version(),

@@ -74,9 +74,13 @@ pub fn read_clocks<A: Allocator + Copy, S: Source>(
     limit: u32,
     reader: &mut S,
 ) -> Result<Vec<u64, A>, ReadingError>
-    ensures all { IfOk result (λ moments. AreAllClocks limit (S.remaining reader.old) (S.remaining reader.new) moments.items) }
-    ensures ends { IfErr result (λ e. EndsReading e limit (S.remaining reader.old) (S.remaining reader.new)) }
-    ensures read { CountsReading result (S.failed reader.old) (S.fruitless reader.old) (S.failed reader.new) (S.fruitless reader.new) }
+    ensures all { IfOk result
+        (λ moments. AreAllClocks limit (S.remaining reader.old) (S.remaining reader.new)
+        moments.items) }
+    ensures ends { IfErr result
+        (λ e. EndsReading e limit (S.remaining reader.old) (S.remaining reader.new)) }
+    ensures read { CountsReading result (S.failed reader.old) (S.fruitless reader.old)
+        (S.failed reader.new) (S.fruitless reader.new) }
 {
     let mut held = Held::new(alloc)?;
     let mut moments = Vec::new(alloc);
@@ -135,7 +139,8 @@ fn take_clocks<A: Allocator>(
 /// The moment of the clock whose line stands at the front of some bytes, and what follows it. `Err` is why no line of a clock does.
 #[tactic(auto, using(crate::proofs::Taking::other_refused, crate::proofs::Taking::clock_read))]
 fn split_clock(rest: &[u8]) -> Result<(u64, &[u8]), ClocksEnd>
-    ensures { MatchResult result (λ r. IsClockRead rest.now r.0 r.1.now) (λ e. IsNoClockEnd e rest.now) }
+    ensures { MatchResult result (λ r. IsClockRead rest.now r.0 r.1.now)
+        (λ e. IsNoClockEnd e rest.now) }
 {
     let Some((event, behind)) = split_event(rest) else {
         return Err(end_of(rest));

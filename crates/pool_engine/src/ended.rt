@@ -55,7 +55,8 @@ pub fn look_back(happened: &[KeptHappening], moments: &[u64]) -> Told
 
 /// The moments that follow this one, where it is the first of them. `None`: another one is, or there is none.
 fn left_behind(moment: u64, moments: &[u64]) -> Option<&[u64]>
-    ensures { MatchOption result ((rest : List ℕ) → moments.now ≢ moment ∷ rest) (λ rest. moment ∷ rest.now ≡ moments.now) }
+    ensures { MatchOption result ((rest : List ℕ) → moments.now ≢ moment ∷ rest)
+        (λ rest. moment ∷ rest.now ≡ moments.now) }
 {
     let (first, rest) = moments.split_first()?;
     if *first != moment {
@@ -83,8 +84,10 @@ pub fn write_lines<A: Allocator, W: Sink>(
     writer: &mut W,
 ) -> bool
     requires { draft.old ≡ [] }
-    ensures text { TextWritten result (W.contents writer.old) (W.contents writer.new) (lines_text lines.now) }
-    ensures counts { CountsTries result (W.failed writer.old) (W.fruitless writer.old) (W.failed writer.new) (W.fruitless writer.new) }
+    ensures text { TextWritten result (W.contents writer.old) (W.contents writer.new)
+        (lines_text lines.now) }
+    ensures counts { CountsTries result (W.failed writer.old) (W.fruitless writer.old)
+        (W.failed writer.new) (W.fruitless writer.new) }
 {
-    draft.give_lines(lines, writer) && write_text(writer, draft.bytes())
+    draft.give_many(lines, writer) && write_text(writer, draft.bytes())
 }

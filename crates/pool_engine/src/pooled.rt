@@ -65,10 +65,14 @@ pub fn run_pool<A: HeapAllocator + Send + Sync, R: Threads + Wait + Sync, S: Sou
     reader: &mut S,
     writer: &mut W,
 ) -> Result<Report, RunError>
-    ensures ran { PoolRan result plan_text.now workers limit (S.remaining reader.old) (S.remaining reader.new) (W.contents writer.old) (W.contents writer.new) }
-    ensures read { CountsReader result (S.failed reader.old) (S.fruitless reader.old) (S.failed reader.new) (S.fruitless reader.new) }
-    ensures write { CountsWriter result (W.failed writer.old) (W.fruitless writer.old) (W.failed writer.new) (W.fruitless writer.new) }
-    ensures uncalled { LeavesWriter result (W.failed writer.old) (W.fruitless writer.old) (W.failed writer.new) (W.fruitless writer.new) }
+    ensures ran { PoolRan result plan_text.now workers limit (S.remaining reader.old)
+        (S.remaining reader.new) (W.contents writer.old) (W.contents writer.new) }
+    ensures read { CountsReader result (S.failed reader.old) (S.fruitless reader.old)
+        (S.failed reader.new) (S.fruitless reader.new) }
+    ensures write { CountsWriter result (W.failed writer.old) (W.fruitless writer.old)
+        (W.failed writer.new) (W.fruitless writer.new) }
+    ensures uncalled { LeavesWriter result (W.failed writer.old) (W.fruitless writer.old)
+        (W.failed writer.new) (W.fruitless writer.new) }
 {
     let code = code_of(alloc, plan_text)?;
     if workers == 0 || workers > MOST_WORKERS {
@@ -114,9 +118,12 @@ fn run_named<
     requires tasks { shared.now.tasks ≡ task_count (calls_of code) }
     requires named { (calls_of code ≡ N.calls) × (asked.now.workers ≡ N.workers) }
     requires draft { draft.old ≡ [] }
-    ensures wrote { PoolWrote result N.calls N.workers asked.now.limit asked.now.moments.now (W.contents writer.old) (W.contents writer.new) }
-    ensures write { CountsStop result (W.failed writer.old) (W.fruitless writer.old) (W.failed writer.new) (W.fruitless writer.new) }
-    ensures uncalled { StopLeaves result (W.failed writer.old) (W.fruitless writer.old) (W.failed writer.new) (W.fruitless writer.new) }
+    ensures wrote { PoolWrote result N.calls N.workers asked.now.limit asked.now.moments.now
+        (W.contents writer.old) (W.contents writer.new) }
+    ensures write { CountsStop result (W.failed writer.old) (W.fruitless writer.old)
+        (W.failed writer.new) (W.fruitless writer.new) }
+    ensures uncalled { StopLeaves result (W.failed writer.old) (W.fruitless writer.old)
+        (W.failed writer.new) (W.fruitless writer.new) }
 {
     let made = Pool::<N, A>::new(alloc, shared, seat, code, asked.workers, asked.limit);
     let Ok(pool) = made else {
@@ -148,11 +155,19 @@ fn write_rested<N: Named, A: Allocator, W: Sink>(
 ) -> Result<Report, LastError>
     requires draft { draft.old ≡ [] }
     ensures wrote { MatchResult result
-        (λ report. PoolWrote (Ok report) N.calls N.workers asked.now.limit asked.now.moments.now (W.contents writer.old) (W.contents writer.new))
-        (λ e. PoolWrote (Err (stop_of_last e)) N.calls N.workers asked.now.limit asked.now.moments.now (W.contents writer.old) (W.contents writer.new)) }
-    ensures write { CountsLast result (W.failed writer.old) (W.fruitless writer.old) (W.failed writer.new) (W.fruitless writer.new) }
-    ensures uncalled { IsErrOf result LastError.Lost → (W.failed writer.new ≡ W.failed writer.old) × (W.fruitless writer.new ≡ W.fruitless writer.old) }
-    ensures lost { IsErrOf result LastError.Lost ↔ ¬ (IsRested book.now asked.now.moments.now × (event_count book.now.happened ≤ asked.now.limit)) }
+        (λ report. PoolWrote (Ok report) N.calls N.workers asked.now.limit asked.now.moments.now
+        (W.contents writer.old) (W.contents writer.new))
+        (λ e. PoolWrote (Err (stop_of_last e)) N.calls N.workers asked.now.limit
+        asked.now.moments.now (W.contents writer.old) (W.contents writer.new)) }
+    ensures write { CountsLast result (W.failed writer.old) (W.fruitless writer.old)
+        (W.failed writer.new) (W.fruitless writer.new) }
+    ensures uncalled { IsErrOf result LastError.Lost
+        → (W.failed writer.new ≡ W.failed writer.old)
+        × (W.fruitless writer.new ≡ W.fruitless writer.old) }
+    ensures lost { IsErrOf result LastError.Lost
+        ↔ ¬
+        (IsRested book.now asked.now.moments.now
+        × (event_count book.now.happened ≤ asked.now.limit)) }
 {
     let told = look_back(book.happenings(), asked.moments);
     if !told.shows_moments || book.ripe() || told.events > asked.limit as usize {
@@ -177,11 +192,17 @@ fn write_full<N: Named, A: Allocator, W: Sink>(
 ) -> Result<(), LastError>
     requires draft { draft.old ≡ [] }
     ensures wrote { MatchResult result
-        (λ _. PoolWrote (Err PoolStop.Full) N.calls N.workers asked.now.limit asked.now.moments.now (W.contents writer.old) (W.contents writer.new))
-        (λ e. PoolWrote (Err (stop_of_last e)) N.calls N.workers asked.now.limit asked.now.moments.now (W.contents writer.old) (W.contents writer.new)) }
-    ensures write { CountsLast result (W.failed writer.old) (W.fruitless writer.old) (W.failed writer.new) (W.fruitless writer.new) }
-    ensures uncalled { IsErrOf result LastError.Lost → (W.failed writer.new ≡ W.failed writer.old) × (W.fruitless writer.new ≡ W.fruitless writer.old) }
-    ensures lost { IsErrOf result LastError.Lost ↔ ¬ (event_count book.now.happened ≡ asked.now.limit) }
+        (λ _. PoolWrote (Err PoolStop.Full) N.calls N.workers asked.now.limit
+        asked.now.moments.now (W.contents writer.old) (W.contents writer.new))
+        (λ e. PoolWrote (Err (stop_of_last e)) N.calls N.workers asked.now.limit
+        asked.now.moments.now (W.contents writer.old) (W.contents writer.new)) }
+    ensures write { CountsLast result (W.failed writer.old) (W.fruitless writer.old)
+        (W.failed writer.new) (W.fruitless writer.new) }
+    ensures uncalled { IsErrOf result LastError.Lost
+        → (W.failed writer.new ≡ W.failed writer.old)
+        × (W.fruitless writer.new ≡ W.fruitless writer.old) }
+    ensures lost { IsErrOf result LastError.Lost
+        ↔ ¬ (event_count book.now.happened ≡ asked.now.limit) }
 {
     let told = look_back(book.happenings(), asked.moments);
     if told.events != asked.limit as usize {

@@ -68,7 +68,8 @@ impl<A: Allocator> Agenda<A> {
     pub fn pass(&mut self) -> u64
         requires left { self.old.made < length self.old.items }
         ensures passed { self.new ≡ record self.old { made = self.old.made + 1 } }
-        ensures moment { (call : Planned) → slice_get self.old.items self.old.made ≡ Some call → result ≡ call.0 }
+        ensures moment { (call : Planned) → slice_get self.old.items self.old.made ≡ Some call
+            → result ≡ call.0 }
     {
         let Some((at, _)) = self.next else {
             unreachable!()

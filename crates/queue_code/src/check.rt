@@ -13,7 +13,9 @@ use sched_time::{LONGEST, Timing};
 /// Goes through a list of instructions up to its halt: what was met, or the first fault.
 pub(crate) fn walk(instrs: &[Instr]) -> Result<Progress, CodeFault>
     ensures fault { IfErr result (λ e. code_fault instrs.now ≡ Some e) }
-    ensures none { IfOk result (λ p. (code_fault instrs.now ≡ None) × (p ≡ walked walk_opening instrs.now) × AreTimed instrs.now) }
+    ensures none { IfOk result
+        (λ p. (code_fault instrs.now ≡ None) × (p ≡ walked walk_opening instrs.now)
+        × AreTimed instrs.now) }
 {
     let mut progress = Progress::new();
     for (index, instr) in instrs.iter().enumerate() {

@@ -45,8 +45,11 @@ impl<A: Allocator> Code<A> {
     /// another fault. Instructions that are refused are dropped. A period, or a fixed delay, of 0 is no fault: the run
     /// after one is then due at the very moment at which that one was due, or ended.
     pub fn check(alloc: A, instrs: Vec<Instr, A>) -> Result<Code<A>, CodeFault>
-        ensures code { IfOk result (λ code. (code ≡ instrs.items) × (code_fault instrs.items ≡ None)) }
-        ensures fault { IfErr result (λ e. (code_fault instrs.items ≡ Some e) ⊎ ((e ≡ CodeFault.Memory) × (code_fault instrs.items ≡ None))) }
+        ensures code { IfOk result
+            (λ code. (code ≡ instrs.items) × (code_fault instrs.items ≡ None)) }
+        ensures fault { IfErr result
+            (λ e. (code_fault instrs.items ≡ Some e)
+            ⊎ ((e ≡ CodeFault.Memory) × (code_fault instrs.items ≡ None))) }
         ensures orderly { IfOk result (λ code. IsPlanned (calls_of code)) }
     {
         let progress = walk(&instrs)?;
@@ -96,7 +99,8 @@ impl<A: Allocator> Code<A> {
     pub(crate) fn loop_around(&self, index: usize) -> (usize, u32, u64)
         requires within { index < length self.now }
         requires inside { (around : Enclosing) × (loop_around self.now index ≡ Some around) }
-        ensures { (around : Enclosing) → loop_around self.now index ≡ Some around → result ≡ (around.place, around.times, around.every) }
+        ensures { (around : Enclosing) → loop_around self.now index ≡ Some around
+            → result ≡ (around.place, around.times, around.every) }
     {
         let place = self.loops[index];
         let Instr::Loop(times, every) = self.instrs[place] else {

@@ -162,7 +162,9 @@ impl Cursor {
 
     /// The call of an instruction here, if it makes one.
     fn call_of(&self, instr: &Instr) -> Option<(u64, CodeCall)>
-        requires { IfSome (call_by self.now.base self.now.start self.now.tasks instr.now) (λ p. (p.0 ≤ longest) × IsOrderlyCall self.now.tasks p.1 × (self.now.tasks < most_calls_of_code)) }
+        requires { IfSome (call_by self.now.base self.now.start self.now.tasks instr.now)
+            (λ p. (p.0 ≤ longest) × IsOrderlyCall self.now.tasks p.1
+            × (self.now.tasks < most_calls_of_code)) }
         ensures { result ≡ call_by self.now.base self.now.start self.now.tasks instr.now }
     {
         let call = match instr {

@@ -53,7 +53,8 @@ impl ResultCell {
     pub fn put(&self, note: &mut Note<Verdict>, verdict: Box<Verdict>) -> Result<(), Box<Verdict>>
         requires cell { note.old.cell ≡ self.now }
         ensures cell { note.new.cell ≡ note.old.cell }
-        ensures accepted { OnOk result ((note.old.known ≡ None) × (note.new.known ≡ Some verdict.value)) }
+        ensures accepted { OnOk result
+            ((note.old.known ≡ None) × (note.new.known ≡ Some verdict.value)) }
         ensures refused { IfErr result (λ back. back.value ≡ verdict.value) }
         ensures knows { IsSome note.new.known }
         ensures keeps { StaysKnown note.old.known note.new.known }

@@ -171,7 +171,8 @@ fn hand_over<R: Threads + Sync>(
         rt,
         move || -> (Result<(), Box<Verdict>>, Note<Verdict>)
             requires { mine.cell ≡ cell.now }
-            ensures { (result.1.cell ≡ cell.entry.now) × OnOk result.0 (result.1.known ≡ Some verdict.value) }
+            ensures { (result.1.cell ≡ cell.entry.now)
+                × OnOk result.0 (result.1.known ≡ Some verdict.value) }
         {
             let answer = cell.put(&mut mine, verdict);
             (answer, mine)
@@ -222,10 +223,12 @@ fn put_both<R: Threads + Sync>(
     let ((first, mut mine), (second, mut theirs)) = thread::join(
         rt,
         move || -> (bool, Note<Verdict>)
-            ensures { (result.1.cell ≡ cell.entry.now) × (result.0 ≡ true → result.1.known ≡ Some one.value) }
+            ensures { (result.1.cell ≡ cell.entry.now)
+                × (result.0 ≡ true → result.1.known ≡ Some one.value) }
         { put_once(cell, one) },
         move || -> (bool, Note<Verdict>)
-            ensures { (result.1.cell ≡ cell.entry.now) × (result.0 ≡ true → result.1.known ≡ Some two.value) }
+            ensures { (result.1.cell ≡ cell.entry.now)
+                × (result.0 ≡ true → result.1.known ≡ Some two.value) }
         { put_once(cell, two) },
     );
     same(&mut mine, &mut theirs);

@@ -34,10 +34,13 @@ pub fn draw_files<A: HeapAllocator, P: Source + Drop, O: Fn(&str) -> io::Result<
     writer: &mut W,
 ) -> Result<u8, ProgramError>
     requires { O.IsAlwaysCallable open_file }
-    ensures answers { AnswersDraw result (IsReadOf P.remaining P.failed P.fruitless most_of_plan plan)
-        (λ text. (trace : Result P Error) × O.post open_file asked.now.check.trace trace × IsReadOf P.remaining P.failed P.fruitless most_of_trace trace text)
+    ensures answers { AnswersDraw result
+        (IsReadOf P.remaining P.failed P.fruitless most_of_plan plan)
+        (λ text. (trace : Result P Error) × O.post open_file asked.now.check.trace trace
+        × IsReadOf P.remaining P.failed P.fruitless most_of_trace trace text)
         asked.now.check.workers asked.now.view (W.contents writer.old) (W.contents writer.new) }
-    ensures write { CountsOutput result (W.failed writer.old) (W.fruitless writer.old) (W.failed writer.new) (W.fruitless writer.new) }
+    ensures write { CountsOutput result (W.failed writer.old) (W.fruitless writer.old)
+        (W.failed writer.new) (W.fruitless writer.new) }
     ensures unread { IsErrOf result (ProgramError.Run RunError.Read) → ⊥ }
     ensures status { MatchResult result (λ s. s ≤ 1) (λ e. status_of e ≡ 1) }
 {
@@ -60,10 +63,13 @@ fn write_drawing<A: Allocator + Copy, B: Allocator, W: Sink>(
     writer: &mut W,
 ) -> Result<u8, ProgramError>
     requires { length trace.now ≤ most_bytes }
-    ensures drawn { IsDrawnAsAsked result plan.now asked.now.check.workers trace.now asked.now.view (W.contents writer.old) (W.contents writer.new) }
-    ensures write { CountsOutput result (W.failed writer.old) (W.fruitless writer.old) (W.failed writer.new) (W.fruitless writer.new) }
+    ensures drawn { IsDrawnAsAsked result plan.now asked.now.check.workers trace.now asked.now.view
+        (W.contents writer.old) (W.contents writer.new) }
+    ensures write { CountsOutput result (W.failed writer.old) (W.fruitless writer.old)
+        (W.failed writer.new) (W.fruitless writer.new) }
     ensures unread { IsErrOf result (ProgramError.Run RunError.Read) → ⊥ }
-    ensures workers { IsErrOf result (ProgramError.Run RunError.Workers) ↔ ¬ IsWorkerCount asked.now.check.workers }
+    ensures workers { IsErrOf result (ProgramError.Run RunError.Workers)
+        ↔ ¬ IsWorkerCount asked.now.check.workers }
     ensures status { MatchResult result (λ s. s ≤ 1) (λ e. status_of e ≡ 1) }
 {
     match draw(alloc, plan, asked.check.workers, trace, asked.view, writer) {

@@ -26,7 +26,9 @@ type Reason = ArrayString<LONGEST_REASON>;
 /// Tells an answer: the exit status that it is or that goes with it, and the line of a refusal or of an error by `faults`. Where these are
 /// at fault, the status alone tells it. No memory is taken.
 pub fn tell<W: Sink>(faults: &mut W, answer: Result<Answer, ProgramError>) -> u8
-    ensures told { IsTold answer (W.contents faults.old) (W.contents faults.new) (W.failed faults.old) (W.fruitless faults.old) (W.failed faults.new) (W.fruitless faults.new) }
+    ensures told { IsTold answer (W.contents faults.old) (W.contents faults.new)
+        (W.failed faults.old) (W.fruitless faults.old) (W.failed faults.new)
+        (W.fruitless faults.new) }
     ensures status { result ≡ exit_status_of answer }
 {
     match answer {

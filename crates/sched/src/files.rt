@@ -36,8 +36,11 @@ pub fn plan_text<A: Allocator, P: Source + Drop>(
     alloc: A,
     opened: io::Result<P>,
 ) -> Result<Vec<u8, A>, ProgramError>
-    ensures text { IfOk result (λ text. IsReadOf P.remaining P.failed P.fruitless most_of_plan opened (Some text.items)) }
-    ensures fault { IfErr result (λ e. (e ≡ Run Memory) ⊎ ((e ≡ PlanFile) × IsReadOf P.remaining P.failed P.fruitless most_of_plan opened None)) }
+    ensures text { IfOk result
+        (λ text. IsReadOf P.remaining P.failed P.fruitless most_of_plan opened (Some text.items)) }
+    ensures fault { IfErr result
+        (λ e. (e ≡ Run Memory)
+        ⊎ ((e ≡ PlanFile) × IsReadOf P.remaining P.failed P.fruitless most_of_plan opened None)) }
 {
     match opened {
         Ok(mut file) => plan_front(alloc, &mut file),
@@ -51,10 +54,13 @@ pub fn plan_front<A: Allocator, P: Source>(
     alloc: A,
     file: &mut P,
 ) -> Result<Vec<u8, A>, ProgramError>
-    ensures text { IfOk result (λ text. IfSome (P.remaining file.old) (λ bytes. text.items ≡ front most_of_plan bytes)) }
-    ensures rest { IfOk result (λ text. Consumes (P.remaining file.old) (P.remaining file.new) text.items) }
+    ensures text { IfOk result
+        (λ text. IfSome (P.remaining file.old) (λ bytes. text.items ≡ front most_of_plan bytes)) }
+    ensures rest { IfOk result
+        (λ text. Consumes (P.remaining file.old) (P.remaining file.new) text.items) }
     ensures taken { TakesAtMost most_of_plan (P.remaining file.old) (P.remaining file.new) }
-    ensures counts { CountsFile result (P.failed file.old) (P.fruitless file.old) (P.failed file.new) (P.fruitless file.new) }
+    ensures counts { CountsFile result (P.failed file.old) (P.fruitless file.old)
+        (P.failed file.new) (P.fruitless file.new) }
     ensures fault { IfErr result (IsOrMemory PlanFile) }
 {
     front_of(alloc, file, MOST_OF_PLAN, ProgramError::PlanFile)
@@ -66,10 +72,16 @@ pub fn trace_text<A: Allocator, P: Source + Drop>(
     alloc: A,
     opened: io::Result<P>,
 ) -> Result<Vec<u8, A>, ProgramError>
-    ensures text { IfOk result (λ text. IsReadOf P.remaining P.failed P.fruitless most_of_trace opened (Some text.items)) }
+    ensures text { IfOk result
+        (λ text. IsReadOf P.remaining P.failed P.fruitless most_of_trace opened (Some text.items)) }
     ensures size { IfOk result (λ text. length text.items ≤ most_bytes) }
-    ensures long { IsErrOf result TraceTooLong → (text : List ℕ) × IsReadOf P.remaining P.failed P.fruitless most_of_trace opened (Some text) × (most_bytes < length text) }
-    ensures fault { IfErr result (λ e. (e ≡ TraceTooLong) ⊎ (e ≡ Run Memory) ⊎ ((e ≡ TraceFile) × IsReadOf P.remaining P.failed P.fruitless most_of_trace opened None)) }
+    ensures long { IsErrOf result TraceTooLong
+        → (text : List ℕ)
+        × IsReadOf P.remaining P.failed P.fruitless most_of_trace opened (Some text)
+        × (most_bytes < length text) }
+    ensures fault { IfErr result
+        (λ e. (e ≡ TraceTooLong) ⊎ (e ≡ Run Memory)
+        ⊎ ((e ≡ TraceFile) × IsReadOf P.remaining P.failed P.fruitless most_of_trace opened None)) }
 {
     match opened {
         Ok(mut file) => whole_trace(alloc, &mut file),
@@ -83,12 +95,16 @@ pub fn whole_trace<A: Allocator, P: Source>(
     alloc: A,
     file: &mut P,
 ) -> Result<Vec<u8, A>, ProgramError>
-    ensures text { IfOk result (λ text. IfSome (P.remaining file.old) (λ bytes. text.items ≡ bytes)) }
-    ensures rest { IfOk result (λ text. Consumes (P.remaining file.old) (P.remaining file.new) text.items) }
+    ensures text { IfOk result
+        (λ text. IfSome (P.remaining file.old) (λ bytes. text.items ≡ bytes)) }
+    ensures rest { IfOk result
+        (λ text. Consumes (P.remaining file.old) (P.remaining file.new) text.items) }
     ensures taken { TakesAtMost most_of_trace (P.remaining file.old) (P.remaining file.new) }
-    ensures counts { CountsFile result (P.failed file.old) (P.fruitless file.old) (P.failed file.new) (P.fruitless file.new) }
+    ensures counts { CountsFile result (P.failed file.old) (P.fruitless file.old)
+        (P.failed file.new) (P.fruitless file.new) }
     ensures size { IfOk result (λ text. length text.items ≤ most_bytes) }
-    ensures long { IsErrOf result TraceTooLong → IfSome (P.remaining file.old) (λ bytes. most_bytes < length bytes) }
+    ensures long { IsErrOf result TraceTooLong
+        → IfSome (P.remaining file.old) (λ bytes. most_bytes < length bytes) }
     ensures fault { IfErr result (λ e. (e ≡ TraceTooLong) ⊎ IsOrMemory TraceFile e) }
 {
     let text = front_of(alloc, file, MOST_OF_TRACE, ProgramError::TraceFile)?;
@@ -106,12 +122,15 @@ pub fn front_of<A: Allocator, P: Source>(
     most: usize,
     fault: ProgramError,
 ) -> Result<Vec<u8, A>, ProgramError>
-    ensures text { IfOk result (λ text. IfSome (P.remaining file.old) (λ bytes. text.items ≡ front most bytes)) }
-    ensures rest { IfOk result (λ text. Consumes (P.remaining file.old) (P.remaining file.new) text.items) }
+    ensures text { IfOk result
+        (λ text. IfSome (P.remaining file.old) (λ bytes. text.items ≡ front most bytes)) }
+    ensures rest { IfOk result
+        (λ text. Consumes (P.remaining file.old) (P.remaining file.new) text.items) }
     ensures few { IfOk result (λ text. length text.items ≤ most) }
     ensures fault { IfErr result (IsOrMemory fault) }
     ensures taken { TakesAtMost most (P.remaining file.old) (P.remaining file.new) }
-    ensures counts { CountsFront fault result (P.failed file.old) (P.fruitless file.old) (P.failed file.new) (P.fruitless file.new) }
+    ensures counts { CountsFront fault result (P.failed file.old) (P.fruitless file.old)
+        (P.failed file.new) (P.fruitless file.new) }
 {
     let mut text = Vec::new(alloc);
     let mut filled = 0;
@@ -157,10 +176,13 @@ fn read_behind<P: Source>(file: &mut P, text: &mut [u8], filled: usize) -> Optio
     requires { filled < length text.old }
     ensures front { take filled text.new ≡ take filled text.old }
     ensures fits { IfSome result (λ n. filled + n ≤ length text.new) }
-    ensures read { IfSome result (λ n. Consumes (P.remaining file.old) (P.remaining file.new) (take n (drop filled text.new))) }
+    ensures read { IfSome result
+        (λ n. Consumes (P.remaining file.old) (P.remaining file.new)
+        (take n (drop filled text.new))) }
     ensures end { IfSome result (λ n. n ≡ 0 → IsAtEnd (P.remaining file.new)) }
     ensures kept { IfNone result (Keeps (P.remaining file.old) (P.remaining file.new)) }
-    ensures counts { CountsTry result (P.failed file.old) (P.fruitless file.old) (P.failed file.new) (P.fruitless file.new) }
+    ensures counts { CountsTry result (P.failed file.old) (P.fruitless file.old) (P.failed file.new)
+        (P.fruitless file.new) }
 {
     read_some(file, &mut text[filled..])
 }

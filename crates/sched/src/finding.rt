@@ -25,8 +25,10 @@ pub fn write_finding<A: Allocator + Copy, B: Allocator, W: Sink>(
     writer: &mut W,
 ) -> Result<u8, ProgramError>
     requires { length trace.now ≤ most_bytes }
-    ensures found { IsCheckedAsAsked result plan.now workers trace.now (W.contents writer.old) (W.contents writer.new) }
-    ensures write { CountsOutput result (W.failed writer.old) (W.fruitless writer.old) (W.failed writer.new) (W.fruitless writer.new) }
+    ensures found { IsCheckedAsAsked result plan.now workers trace.now (W.contents writer.old)
+        (W.contents writer.new) }
+    ensures write { CountsOutput result (W.failed writer.old) (W.fruitless writer.old)
+        (W.failed writer.new) (W.fruitless writer.new) }
     ensures unread { IsErrOf result (ProgramError.Run RunError.Read) → ⊥ }
     ensures workers { IsErrOf result (ProgramError.Run RunError.Workers) ↔ ¬ IsWorkerCount workers }
     ensures status { MatchResult result (λ s. s ≤ 1) (λ e. fault_status e ≡ 1) }
@@ -46,7 +48,8 @@ pub fn tell_finding<A: Allocator, W: Sink>(
     writer: &mut W,
 ) -> Result<u8, ProgramError>
     ensures told { IsFindingTold result finding (W.contents writer.old) (W.contents writer.new) }
-    ensures write { CountsOutput result (W.failed writer.old) (W.fruitless writer.old) (W.failed writer.new) (W.fruitless writer.new) }
+    ensures write { CountsOutput result (W.failed writer.old) (W.fruitless writer.old)
+        (W.failed writer.new) (W.fruitless writer.new) }
     ensures unread { IsErrOf result (ProgramError.Run RunError.Read) → ⊥ }
     ensures workers { IsErrOf result (ProgramError.Run RunError.Workers) → ⊥ }
     ensures status { MatchResult result (λ s. s ≤ 1) (λ e. fault_status e ≡ 1) }

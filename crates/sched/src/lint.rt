@@ -61,10 +61,13 @@ pub fn lint_files<P: Source + Drop, O: Fn(&str) -> io::Result<P> + Drop, W: Sink
     writer: &mut W,
 ) -> Result<Answer, ProgramError>
     requires { O.IsAlwaysCallable open_file }
-    ensures answers { AnswersLint result (IsReadOf P.remaining P.failed P.fruitless) (O.post open_file) asked.now (W.contents writer.old) (W.contents writer.new) }
-    ensures write { CountsOutput (end_of result) (W.failed writer.old) (W.fruitless writer.old) (W.failed writer.new) (W.fruitless writer.new) }
+    ensures answers { AnswersLint result (IsReadOf P.remaining P.failed P.fruitless)
+        (O.post open_file) asked.now (W.contents writer.old) (W.contents writer.new) }
+    ensures write { CountsOutput (end_of result) (W.failed writer.old) (W.fruitless writer.old)
+        (W.failed writer.new) (W.fruitless writer.new) }
     ensures unread { IsErrOf result (ProgramError.Run RunError.Read) → ⊥ }
-    ensures status { MatchResult (end_of result) (λ s. (s ≡ 0) ⊎ (s ≡ 1)) (λ e. (status_of e ≡ 1) ⊎ (e ≡ LintOptions)) }
+    ensures status { MatchResult (end_of result) (λ s. (s ≡ 0) ⊎ (s ≡ 1))
+        (λ e. (status_of e ≡ 1) ⊎ (e ≡ LintOptions)) }
 {
     match find_wrong(heap, asked, open_file)? {
         Some(refusal) => Ok(Answer::Refused(refusal)),
@@ -75,7 +78,8 @@ pub fn lint_files<P: Source + Drop, O: Fn(&str) -> io::Result<P> + Drop, W: Sink
 /// Writes `fine`. `Err` where the writer is at fault, after a front of it was written.
 fn tell_fine<W: Sink>(writer: &mut W) -> Result<Answer, ProgramError>
     ensures told { TellsFine result (W.contents writer.old) (W.contents writer.new) }
-    ensures write { CountsOutput (end_of result) (W.failed writer.old) (W.fruitless writer.old) (W.failed writer.new) (W.fruitless writer.new) }
+    ensures write { CountsOutput (end_of result) (W.failed writer.old) (W.fruitless writer.old)
+        (W.failed writer.new) (W.fruitless writer.new) }
 {
     if write_text(writer, b"fine\n") {
         Ok(Answer::Status(0))
@@ -91,8 +95,11 @@ fn find_wrong<P: Source + Drop, O: Fn(&str) -> io::Result<P> + Drop>(
     open_file: O,
 ) -> Result<Option<Refusal>, ProgramError>
     requires { O.IsAlwaysCallable open_file }
-    ensures finds { IfOk result (Finds (IsReadOf P.remaining P.failed P.fruitless) (O.post open_file) asked.now) }
-    ensures fault { IfErr result (λ e. (e ≡ Run Memory) ⊎ ((e ≡ LintOptions) × (IsSome (asked_beside asked.now) → ⊥)) ⊎ ((e ≡ Run Workers) × IsUncounted (asked_beside asked.now))) }
+    ensures finds { IfOk result
+        (Finds (IsReadOf P.remaining P.failed P.fruitless) (O.post open_file) asked.now) }
+    ensures fault { IfErr result
+        (λ e. (e ≡ Run Memory) ⊎ ((e ≡ LintOptions) × (IsSome (asked_beside asked.now) → ⊥))
+        ⊎ ((e ≡ Run Workers) × IsUncounted (asked_beside asked.now))) }
 {
     let Some(beside) = looked_at(asked) else {
         return Err(ProgramError::LintOptions);
@@ -131,7 +138,10 @@ fn events_wrong<P: Source + Drop>(
     name: &str,
     opened: io::Result<P>,
 ) -> Result<Option<Refusal>, ProgramError>
-    ensures finds { IfOk result (λ told. MatchOption told (EventsRight (IsReadOf P.remaining P.failed P.fruitless most_of_trace opened)) (λ line. EventsWrong (IsReadOf P.remaining P.failed P.fruitless most_of_trace opened))) }
+    ensures finds { IfOk result
+        (λ told. MatchOption told
+        (EventsRight (IsReadOf P.remaining P.failed P.fruitless most_of_trace opened))
+        (λ line. EventsWrong (IsReadOf P.remaining P.failed P.fruitless most_of_trace opened))) }
     ensures fault { IfErr result (λ e. e ≡ Run Memory) }
 {
     let text = match read_file(heap, name, opened, MOST_OF_TRACE)? {
@@ -156,8 +166,14 @@ fn trace_wrong<P: Source + Drop>(
     workers: u8,
     opened: io::Result<P>,
 ) -> Result<Option<Refusal>, ProgramError>
-    ensures finds { IfOk result (λ told. MatchOption told (TraceRight (IsReadOf P.remaining P.failed P.fruitless most_of_trace opened) plan.now workers) (λ line. TraceWrong (IsReadOf P.remaining P.failed P.fruitless most_of_trace opened) plan.now workers)) }
-    ensures fault { IfErr result (λ e. (e ≡ Run Memory) ⊎ ((e ≡ Run Workers) × ¬ IsWorkerCount workers)) }
+    ensures finds { IfOk result
+        (λ told. MatchOption told
+        (TraceRight (IsReadOf P.remaining P.failed P.fruitless most_of_trace opened) plan.now
+        workers)
+        (λ line. TraceWrong (IsReadOf P.remaining P.failed P.fruitless most_of_trace opened)
+        plan.now workers)) }
+    ensures fault { IfErr result
+        (λ e. (e ≡ Run Memory) ⊎ ((e ≡ Run Workers) × ¬ IsWorkerCount workers)) }
 {
     let text = match read_file(heap, name, opened, MOST_OF_TRACE)? {
         Ok(text) => text,

@@ -46,7 +46,10 @@ pub fn read_file<P: Source + Drop>(
     opened: io::Result<P>,
     most: usize,
 ) -> Result<Result<Vec<u8>, Refusal>, ProgramError>
-    ensures text { IfOk result (λ r. MatchResult r (λ text. IsReadOf P.remaining P.failed P.fruitless most opened (Some text.items)) (λ line. IsReadOf P.remaining P.failed P.fruitless most opened None)) }
+    ensures text { IfOk result
+        (λ r. MatchResult r
+        (λ text. IsReadOf P.remaining P.failed P.fruitless most opened (Some text.items))
+        (λ line. IsReadOf P.remaining P.failed P.fruitless most opened None)) }
     ensures few { IfOk result (λ r. IfOk r (λ text. length text.items ≤ most)) }
     ensures fault { IfErr result (λ e. e ≡ Run Memory) }
 {
@@ -66,7 +69,10 @@ fn read_opened<P: Source + Drop>(
     file: P,
     most: usize,
 ) -> Result<Result<Vec<u8>, Refusal>, ProgramError>
-    ensures text { IfOk result (λ r. MatchResult r (λ text. IsReadOf P.remaining P.failed P.fruitless most (Ok file) (Some text.items)) (λ line. IsReadOf P.remaining P.failed P.fruitless most (Ok file) None)) }
+    ensures text { IfOk result
+        (λ r. MatchResult r
+        (λ text. IsReadOf P.remaining P.failed P.fruitless most (Ok file) (Some text.items))
+        (λ line. IsReadOf P.remaining P.failed P.fruitless most (Ok file) None)) }
     ensures few { IfOk result (λ r. IfOk r (λ text. length text.items ≤ most)) }
     ensures fault { IfErr result (λ e. e ≡ Run Memory) }
 {

@@ -32,9 +32,13 @@ pub fn live_lines<
     writer: &mut W,
 ) -> Result<u8, ProgramError>
     requires { C.IsAlwaysCallable create_file }
-    ensures answers { AnswersLive result asked.now (IsWrittenTo F.contents F.failed F.fruitless) (C.post create_file) (S.remaining reader.old) (S.remaining reader.new) (W.contents writer.old) (W.contents writer.new) }
-    ensures read { CountsInput result (S.failed reader.old) (S.fruitless reader.old) (S.failed reader.new) (S.fruitless reader.new) }
-    ensures write { CountsOutput result (W.failed writer.old) (W.fruitless writer.old) (W.failed writer.new) (W.fruitless writer.new) }
+    ensures answers { AnswersLive result asked.now (IsWrittenTo F.contents F.failed F.fruitless)
+        (C.post create_file) (S.remaining reader.old) (S.remaining reader.new)
+        (W.contents writer.old) (W.contents writer.new) }
+    ensures read { CountsInput result (S.failed reader.old) (S.fruitless reader.old)
+        (S.failed reader.new) (S.fruitless reader.new) }
+    ensures write { CountsOutput result (W.failed writer.old) (W.fruitless writer.old)
+        (W.failed writer.new) (W.fruitless writer.new) }
     ensures status { MatchResult result (λ s. s ≡ 0) (λ e. status_of e ≡ 1) }
 {
     let mut journal = Journal::new(alloc, asked.plan.is_some());
@@ -53,7 +57,8 @@ fn leave_plan<A: HeapAllocator, F: Sink + Drop, C: Fn(&str) -> io::Result<F> + D
     create_file: C,
 ) -> Result<(), ProgramError>
     requires { C.IsAlwaysCallable create_file }
-    ensures plan { PlanAsAsked result asked.now.plan journal.now (IsWrittenTo F.contents F.failed F.fruitless) (C.post create_file) }
+    ensures plan { PlanAsAsked result asked.now.plan journal.now
+        (IsWrittenTo F.contents F.failed F.fruitless) (C.post create_file) }
     ensures unread { IsErrOf result (ProgramError.Run RunError.Read) → ⊥ }
     ensures unwritten { IsErrOf result (ProgramError.Run RunError.Write) → ⊥ }
     ensures status { IfErr result (λ e. status_of e ≡ 1) }
@@ -74,7 +79,8 @@ pub fn write_plan<A: HeapAllocator, F: Sink + Drop, C: Fn(&str) -> io::Result<F>
     create_file: C,
 ) -> Result<(), ProgramError>
     requires { C.IsAlwaysCallable create_file }
-    ensures written { PlanWritten result journal.now (IsWrittenTo F.contents F.failed F.fruitless) (C.post create_file name.entry) }
+    ensures written { PlanWritten result journal.now (IsWrittenTo F.contents F.failed F.fruitless)
+        (C.post create_file name.entry) }
     ensures unread { IsErrOf result (ProgramError.Run RunError.Read) → ⊥ }
     ensures unwritten { IsErrOf result (ProgramError.Run RunError.Write) → ⊥ }
     ensures status { IfErr result (λ e. status_of e ≡ 1) }
@@ -99,7 +105,9 @@ pub fn write_plan<A: HeapAllocator, F: Sink + Drop, C: Fn(&str) -> io::Result<F>
 
 /// Writes the text of a plan to a file. `Err` where the file is at fault, after a front of the text was written.
 pub fn write_plan_text<F: Sink>(file: &mut F, text: &[u8]) -> Result<(), ProgramError>
-    ensures written { TextWritten result (F.contents file.old) (F.contents file.new) (F.failed file.old) (F.fruitless file.old) (F.failed file.new) (F.fruitless file.new) text.now }
+    ensures written { TextWritten result (F.contents file.old) (F.contents file.new)
+        (F.failed file.old) (F.fruitless file.old) (F.failed file.new) (F.fruitless file.new)
+        text.now }
     ensures fault { IfErr result (λ e. e ≡ ProgramError.PlanUnwritten) }
 {
     if write_text(file, text) {

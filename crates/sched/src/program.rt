@@ -33,7 +33,10 @@ where
     T: Threads + Wait + Sync,
     F: Sink,
     ensures status { exit_status result ≤ 2 }
-    ensures told { (answer : Result Answer ProgramError) × (exit_status result ≡ exit_status_of answer) × IsTold answer (F.contents faults.old) (F.contents faults.new) (F.failed faults.old) (F.fruitless faults.old) (F.failed faults.new) (F.fruitless faults.new) }
+    ensures told { (answer : Result Answer ProgramError)
+        × (exit_status result ≡ exit_status_of answer)
+        × IsTold answer (F.contents faults.old) (F.contents faults.new) (F.failed faults.old)
+        (F.fruitless faults.old) (F.failed faults.new) (F.fruitless faults.new) }
 {
     ExitCode::from(tell(faults, answer(rt, threads)))
 }

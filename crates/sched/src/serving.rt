@@ -51,13 +51,29 @@ pub fn serve<
 ) -> Result<Result<Answer, ProgramError>, Error>
     requires opens { O.IsAlwaysCallable open_file }
     requires creates { C.IsAlwaysCallable create_file }
-    ensures serves { IfOk result (λ answer. Serves (map string_bytes arguments.now) answer (IsReadOf P.remaining P.failed P.fruitless) (O.post open_file) (IsWrittenTo F.contents F.failed F.fruitless) (C.post create_file) (S.remaining reader.old) (S.remaining reader.new) (W.contents writer.old) (W.contents writer.new)) }
-    ensures read { IfOk result (λ answer. CountsInput (end_of answer) (S.failed reader.old) (S.fruitless reader.old) (S.failed reader.new) (S.fruitless reader.new)) }
-    ensures write { IfOk result (λ answer. CountsOutput (end_of answer) (W.failed writer.old) (W.fruitless writer.old) (W.failed writer.new) (W.fruitless writer.new)) }
+    ensures serves { IfOk result
+        (λ answer. Serves (map string_bytes arguments.now) answer
+        (IsReadOf P.remaining P.failed P.fruitless) (O.post open_file)
+        (IsWrittenTo F.contents F.failed F.fruitless) (C.post create_file)
+        (S.remaining reader.old) (S.remaining reader.new) (W.contents writer.old)
+        (W.contents writer.new)) }
+    ensures read { IfOk result
+        (λ answer. CountsInput (end_of answer) (S.failed reader.old) (S.fruitless reader.old)
+        (S.failed reader.new) (S.fruitless reader.new)) }
+    ensures write { IfOk result
+        (λ answer. CountsOutput (end_of answer) (W.failed writer.old) (W.fruitless writer.old)
+        (W.failed writer.new) (W.fruitless writer.new)) }
     ensures fails { FailsBy (fault_of sched_app (map string_bytes arguments.now)) result }
-    ensures untouched { IfErr result (λ _. IsUntouched (S.remaining reader.old) (S.remaining reader.new) (W.contents writer.old) (W.contents writer.new)) }
-    ensures uncalled { IfErr result (λ _. NoneFailed 0 (S.failed reader.old) (S.fruitless reader.old) (S.failed reader.new) (S.fruitless reader.new) × NoneFailed 0 (W.failed writer.old) (W.fruitless writer.old) (W.failed writer.new) (W.fruitless writer.new)) }
-    ensures status { IfOk result (λ answer. IsEndOf (map string_bytes arguments.now) (end_of answer)) }
+    ensures untouched { IfErr result
+        (λ _. IsUntouched (S.remaining reader.old) (S.remaining reader.new)
+        (W.contents writer.old) (W.contents writer.new)) }
+    ensures uncalled { IfErr result
+        (λ _. NoneFailed 0 (S.failed reader.old) (S.fruitless reader.old) (S.failed reader.new)
+        (S.fruitless reader.new)
+        × NoneFailed 0 (W.failed writer.old) (W.fruitless writer.old) (W.failed writer.new)
+        (W.fruitless writer.new)) }
+    ensures status { IfOk result
+        (λ answer. IsEndOf (map string_bytes arguments.now) (end_of answer)) }
 {
     match Asked::parse(alloc, arguments)? {
         Asked::Pool(pool) => {
@@ -93,9 +109,14 @@ pub fn answer_alone<
 ) -> Result<u8, ProgramError>
     requires opens { O.IsAlwaysCallable open_file }
     requires creates { C.IsAlwaysCallable create_file }
-    ensures answers { AnswersAlone result (IsReadOf P.remaining P.failed P.fruitless) (O.post open_file) (IsWrittenTo F.contents F.failed F.fruitless) (C.post create_file) asked.now (S.remaining reader.old) (S.remaining reader.new) (W.contents writer.old) (W.contents writer.new) }
-    ensures read { CountsInput result (S.failed reader.old) (S.fruitless reader.old) (S.failed reader.new) (S.fruitless reader.new) }
-    ensures write { CountsOutput result (W.failed writer.old) (W.fruitless writer.old) (W.failed writer.new) (W.fruitless writer.new) }
+    ensures answers { AnswersAlone result (IsReadOf P.remaining P.failed P.fruitless)
+        (O.post open_file) (IsWrittenTo F.contents F.failed F.fruitless) (C.post create_file)
+        asked.now (S.remaining reader.old) (S.remaining reader.new) (W.contents writer.old)
+        (W.contents writer.new) }
+    ensures read { CountsInput result (S.failed reader.old) (S.fruitless reader.old)
+        (S.failed reader.new) (S.fruitless reader.new) }
+    ensures write { CountsOutput result (W.failed writer.old) (W.fruitless writer.old)
+        (W.failed writer.new) (W.fruitless writer.new) }
     ensures status { EndsAlone asked.now result }
 {
     match asked {

@@ -31,9 +31,14 @@ pub fn run_file<A: HeapAllocator, P: Source + Drop, S: Source, W: Sink>(
     reader: &mut S,
     writer: &mut W,
 ) -> Result<u8, ProgramError>
-    ensures answers { AnswersRun result (IsReadOf P.remaining P.failed P.fruitless most_of_plan plan) asked.now (S.remaining reader.old) (S.remaining reader.new) (W.contents writer.old) (W.contents writer.new) }
-    ensures read { CountsInput result (S.failed reader.old) (S.fruitless reader.old) (S.failed reader.new) (S.fruitless reader.new) }
-    ensures write { CountsOutput result (W.failed writer.old) (W.fruitless writer.old) (W.failed writer.new) (W.fruitless writer.new) }
+    ensures answers { AnswersRun result
+        (IsReadOf P.remaining P.failed P.fruitless most_of_plan plan) asked.now
+        (S.remaining reader.old) (S.remaining reader.new) (W.contents writer.old)
+        (W.contents writer.new) }
+    ensures read { CountsInput result (S.failed reader.old) (S.fruitless reader.old)
+        (S.failed reader.new) (S.fruitless reader.new) }
+    ensures write { CountsOutput result (W.failed writer.old) (W.fruitless writer.old)
+        (W.failed writer.new) (W.fruitless writer.new) }
     ensures status { MatchResult result (λ s. s ≡ 0) (λ e. status_of e ≡ 1) }
 {
     let text = plan_text(alloc, plan)?;
@@ -49,9 +54,12 @@ fn run_text<A: HeapAllocator, S: Source, W: Sink>(
     reader: &mut S,
     writer: &mut W,
 ) -> Result<u8, ProgramError>
-    ensures ran { RanAsAsked result asked.now text.now (S.remaining reader.old) (S.remaining reader.new) (W.contents writer.old) (W.contents writer.new) }
-    ensures read { CountsInput result (S.failed reader.old) (S.fruitless reader.old) (S.failed reader.new) (S.fruitless reader.new) }
-    ensures write { CountsOutput result (W.failed writer.old) (W.fruitless writer.old) (W.failed writer.new) (W.fruitless writer.new) }
+    ensures ran { RanAsAsked result asked.now text.now (S.remaining reader.old)
+        (S.remaining reader.new) (W.contents writer.old) (W.contents writer.new) }
+    ensures read { CountsInput result (S.failed reader.old) (S.fruitless reader.old)
+        (S.failed reader.new) (S.fruitless reader.new) }
+    ensures write { CountsOutput result (W.failed writer.old) (W.fruitless writer.old)
+        (W.failed writer.new) (W.fruitless writer.new) }
     ensures status { MatchResult result (λ s. s ≡ 0) (λ e. status_of e ≡ 1) }
 {
     run(alloc, text, asked.workers, asked.limit, reader, writer)?;
@@ -69,9 +77,14 @@ pub fn pool_file<R: Threads + Wait + Sync, P: Source + Drop, S: Source, W: Sink>
     reader: &mut S,
     writer: &mut W,
 ) -> Result<u8, ProgramError>
-    ensures answers { AnswersPool result (IsReadOf P.remaining P.failed P.fruitless most_of_plan plan) asked.now (S.remaining reader.old) (S.remaining reader.new) (W.contents writer.old) (W.contents writer.new) }
-    ensures read { CountsInput result (S.failed reader.old) (S.fruitless reader.old) (S.failed reader.new) (S.fruitless reader.new) }
-    ensures write { CountsOutput result (W.failed writer.old) (W.fruitless writer.old) (W.failed writer.new) (W.fruitless writer.new) }
+    ensures answers { AnswersPool result
+        (IsReadOf P.remaining P.failed P.fruitless most_of_plan plan) asked.now
+        (S.remaining reader.old) (S.remaining reader.new) (W.contents writer.old)
+        (W.contents writer.new) }
+    ensures read { CountsInput result (S.failed reader.old) (S.fruitless reader.old)
+        (S.failed reader.new) (S.fruitless reader.new) }
+    ensures write { CountsOutput result (W.failed writer.old) (W.fruitless writer.old)
+        (W.failed writer.new) (W.fruitless writer.new) }
     ensures status { MatchResult result (λ s. s ≡ 0) (λ e. status_of e ≡ 1) }
 {
     let text = plan_text(alloc, plan)?;
@@ -87,9 +100,12 @@ fn pool_text<R: Threads + Wait + Sync, A: HeapAllocator + Send + Sync, S: Source
     reader: &mut S,
     writer: &mut W,
 ) -> Result<u8, ProgramError>
-    ensures ran { PooledAsAsked result asked.now text.now (S.remaining reader.old) (S.remaining reader.new) (W.contents writer.old) (W.contents writer.new) }
-    ensures read { CountsInput result (S.failed reader.old) (S.fruitless reader.old) (S.failed reader.new) (S.fruitless reader.new) }
-    ensures write { CountsOutput result (W.failed writer.old) (W.fruitless writer.old) (W.failed writer.new) (W.fruitless writer.new) }
+    ensures ran { PooledAsAsked result asked.now text.now (S.remaining reader.old)
+        (S.remaining reader.new) (W.contents writer.old) (W.contents writer.new) }
+    ensures read { CountsInput result (S.failed reader.old) (S.fruitless reader.old)
+        (S.failed reader.new) (S.fruitless reader.new) }
+    ensures write { CountsOutput result (W.failed writer.old) (W.fruitless writer.old)
+        (W.failed writer.new) (W.fruitless writer.new) }
     ensures status { MatchResult result (λ s. s ≡ 0) (λ e. status_of e ≡ 1) }
 {
     run_pool(rt, alloc, text, asked.workers, asked.limit, reader, writer)?;
@@ -103,8 +119,11 @@ pub fn list_file<A: HeapAllocator, P: Source + Drop, W: Sink>(
     plan: io::Result<P>,
     writer: &mut W,
 ) -> Result<u8, ProgramError>
-    ensures answers { AnswersCode result (IsReadOf P.remaining P.failed P.fruitless most_of_plan plan) (W.contents writer.old) (W.contents writer.new) }
-    ensures write { CountsOutput result (W.failed writer.old) (W.fruitless writer.old) (W.failed writer.new) (W.fruitless writer.new) }
+    ensures answers { AnswersCode result
+        (IsReadOf P.remaining P.failed P.fruitless most_of_plan plan) (W.contents writer.old)
+        (W.contents writer.new) }
+    ensures write { CountsOutput result (W.failed writer.old) (W.fruitless writer.old)
+        (W.failed writer.new) (W.fruitless writer.new) }
     ensures unread { IsErrOf result (ProgramError.Run RunError.Read) → ⊥ }
     ensures status { MatchResult result (λ s. s ≡ 0) (λ e. status_of e ≡ 1) }
 {
@@ -118,7 +137,8 @@ fn list_text<A: HeapAllocator, W: Sink>(
     writer: &mut W,
 ) -> Result<u8, ProgramError>
     ensures listed { ListedAsAsked result text.now (W.contents writer.old) (W.contents writer.new) }
-    ensures write { CountsOutput result (W.failed writer.old) (W.fruitless writer.old) (W.failed writer.new) (W.fruitless writer.new) }
+    ensures write { CountsOutput result (W.failed writer.old) (W.fruitless writer.old)
+        (W.failed writer.new) (W.fruitless writer.new) }
     ensures unread { IsErrOf result (ProgramError.Run RunError.Read) → ⊥ }
     ensures status { MatchResult result (λ s. s ≡ 0) (λ e. status_of e ≡ 1) }
 {
@@ -133,8 +153,11 @@ pub fn tasks_file<A: HeapAllocator, P: Source + Drop, W: Sink>(
     plan: io::Result<P>,
     writer: &mut W,
 ) -> Result<u8, ProgramError>
-    ensures answers { AnswersTasks result (IsReadOf P.remaining P.failed P.fruitless most_of_plan plan) (W.contents writer.old) (W.contents writer.new) }
-    ensures write { CountsOutput result (W.failed writer.old) (W.fruitless writer.old) (W.failed writer.new) (W.fruitless writer.new) }
+    ensures answers { AnswersTasks result
+        (IsReadOf P.remaining P.failed P.fruitless most_of_plan plan) (W.contents writer.old)
+        (W.contents writer.new) }
+    ensures write { CountsOutput result (W.failed writer.old) (W.fruitless writer.old)
+        (W.failed writer.new) (W.fruitless writer.new) }
     ensures unread { IsErrOf result (ProgramError.Run RunError.Read) → ⊥ }
     ensures status { MatchResult result (λ s. s ≡ 0) (λ e. status_of e ≡ 1) }
 {
@@ -147,8 +170,10 @@ fn tasks_text<A: HeapAllocator, W: Sink>(
     text: &[u8],
     writer: &mut W,
 ) -> Result<u8, ProgramError>
-    ensures told { ToldTasksAsAsked result text.now (W.contents writer.old) (W.contents writer.new) }
-    ensures write { CountsOutput result (W.failed writer.old) (W.fruitless writer.old) (W.failed writer.new) (W.fruitless writer.new) }
+    ensures told { ToldTasksAsAsked result text.now (W.contents writer.old)
+        (W.contents writer.new) }
+    ensures write { CountsOutput result (W.failed writer.old) (W.fruitless writer.old)
+        (W.failed writer.new) (W.fruitless writer.new) }
     ensures unread { IsErrOf result (ProgramError.Run RunError.Read) → ⊥ }
     ensures status { MatchResult result (λ s. s ≡ 0) (λ e. status_of e ≡ 1) }
 {
@@ -172,10 +197,13 @@ pub fn check_files<
     writer: &mut W,
 ) -> Result<u8, ProgramError>
     requires { O.IsAlwaysCallable open_file }
-    ensures answers { AnswersCheck result (IsReadOf P.remaining P.failed P.fruitless most_of_plan plan)
-        (λ text. (trace : Result P Error) × O.post open_file asked.now.trace trace × IsReadOf P.remaining P.failed P.fruitless most_of_trace trace text)
-        asked.now.workers (W.contents writer.old) (W.contents writer.new) }
-    ensures write { CountsOutput result (W.failed writer.old) (W.fruitless writer.old) (W.failed writer.new) (W.fruitless writer.new) }
+    ensures answers { AnswersCheck result
+        (IsReadOf P.remaining P.failed P.fruitless most_of_plan plan)
+        (λ text. (trace : Result P Error) × O.post open_file asked.now.trace trace
+        × IsReadOf P.remaining P.failed P.fruitless most_of_trace trace text) asked.now.workers
+        (W.contents writer.old) (W.contents writer.new) }
+    ensures write { CountsOutput result (W.failed writer.old) (W.fruitless writer.old)
+        (W.failed writer.new) (W.fruitless writer.new) }
     ensures unread { IsErrOf result (ProgramError.Run RunError.Read) → ⊥ }
     ensures status { MatchResult result (λ s. s ≤ 1) (λ e. status_of e ≡ 1) }
 {
@@ -195,8 +223,11 @@ pub fn migrate_file<A: HeapAllocator, P: Source + Drop, W: Sink>(
     plan: io::Result<P>,
     writer: &mut W,
 ) -> Result<u8, ProgramError>
-    ensures answers { AnswersMigrate result (IsReadOf P.remaining P.failed P.fruitless most_of_plan plan) (W.contents writer.old) (W.contents writer.new) }
-    ensures write { CountsOutput result (W.failed writer.old) (W.fruitless writer.old) (W.failed writer.new) (W.fruitless writer.new) }
+    ensures answers { AnswersMigrate result
+        (IsReadOf P.remaining P.failed P.fruitless most_of_plan plan) (W.contents writer.old)
+        (W.contents writer.new) }
+    ensures write { CountsOutput result (W.failed writer.old) (W.fruitless writer.old)
+        (W.failed writer.new) (W.fruitless writer.new) }
     ensures unread { IsErrOf result (ProgramError.Run RunError.Read) → ⊥ }
     ensures status { MatchResult result (λ s. s ≡ 0) (λ e. status_of e ≡ 1) }
 {
@@ -209,8 +240,10 @@ fn migrate_text<A: HeapAllocator, W: Sink>(
     text: &[u8],
     writer: &mut W,
 ) -> Result<u8, ProgramError>
-    ensures answers { AnswersMigrate result (λ plan. plan ≡ Some text.now) (W.contents writer.old) (W.contents writer.new) }
-    ensures write { CountsOutput result (W.failed writer.old) (W.fruitless writer.old) (W.failed writer.new) (W.fruitless writer.new) }
+    ensures answers { AnswersMigrate result (λ plan. plan ≡ Some text.now) (W.contents writer.old)
+        (W.contents writer.new) }
+    ensures write { CountsOutput result (W.failed writer.old) (W.fruitless writer.old)
+        (W.failed writer.new) (W.fruitless writer.new) }
     ensures unread { IsErrOf result (ProgramError.Run RunError.Read) → ⊥ }
     ensures status { MatchResult result (λ s. s ≡ 0) (λ e. status_of e ≡ 1) }
 {

@@ -37,9 +37,12 @@ pub fn run_and_check<A: HeapAllocator>(
     limit: u32,
     input: &[u8],
 ) -> Result<Audit<A>, AuditError>
-    ensures ran { IfOk result (λ audit. RanInMemory audit.answer plan_text.now workers limit input.now audit.trace.items) }
+    ensures ran { IfOk result
+        (λ audit. RanInMemory audit.answer plan_text.now workers limit input.now
+        audit.trace.items) }
     ensures whole { IfOk result (λ audit. IsWhole audit.answer) }
-    ensures finds { IfOk result (λ audit. FindsByText plan_text.now workers audit.trace.items audit.finding) }
+    ensures finds { IfOk result
+        (λ audit. FindsByText plan_text.now workers audit.trace.items audit.finding) }
     ensures conforms { IfOk result (λ audit. audit.finding ≡ Finding.Conforms) }
     ensures fails { IfErr result (λ e. HasNoAudit e plan_text.now workers limit input.now) }
 {

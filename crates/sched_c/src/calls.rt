@@ -25,7 +25,8 @@ pub fn new(
     limit: u64,
     fault: &mut Fault,
 ) -> Status
-    ensures { Makes result plan.now workers limit fault.new (holding slot.old.full slot.old.held.value) (holding slot.new.full slot.new.held.value) }
+    ensures { Makes result plan.now workers limit fault.new
+        (holding slot.old.full slot.old.held.value) (holding slot.new.full slot.new.held.value) }
 {
     *fault = Fault::none();
     if slot.full {
@@ -48,7 +49,8 @@ pub fn new(
 
 /// The status of an error at the making of an executor, and the fault of the text where it is one.
 fn refusal(error: OpenError) -> (Status, Fault)
-    ensures { (text : List ℕ) (workers limit : ℕ) → Refuses error text workers limit → Makes result.0 text workers limit result.1 None None }
+    ensures { (text : List ℕ) (workers limit : ℕ) → Refuses error text workers limit
+        → Makes result.0 text workers limit result.1 None None }
 {
     match error {
         OpenError::Plan(fault) if fault.kind != PlanFaultKind::Memory => {
@@ -62,7 +64,8 @@ fn refusal(error: OpenError) -> (Status, Fault)
 
 /// Frees the executor of a slot.
 pub fn free(alloc: Global, slot: &mut Slot) -> Status
-    ensures { Frees result (holding slot.old.full slot.old.held.value) (holding slot.new.full slot.new.held.value) }
+    ensures { Frees result (holding slot.old.full slot.old.held.value)
+        (holding slot.new.full slot.new.held.value) }
 {
     let Some(session) = slot.take(alloc) else {
         return Status::NoExecutor;
@@ -73,7 +76,8 @@ pub fn free(alloc: Global, slot: &mut Slot) -> Status
 
 /// Takes an event.
 pub fn tell(alloc: Global, slot: &mut Slot, event: Event) -> Status
-    ensures { TakesEvent result event (holding slot.old.full slot.old.held.value) (holding slot.new.full slot.new.held.value) }
+    ensures { TakesEvent result event (holding slot.old.full slot.old.held.value)
+        (holding slot.new.full slot.new.held.value) }
 {
     let Some(mut session) = slot.take(alloc) else {
         return Status::NoExecutor;
@@ -85,7 +89,8 @@ pub fn tell(alloc: Global, slot: &mut Slot, event: Event) -> Status
 
 /// Takes the start of a worker.
 pub fn start(alloc: Global, slot: &mut Slot, worker: u32) -> Status
-    ensures { TakesEventOf worker result (events.Start worker) (holding slot.old.full slot.old.held.value) (holding slot.new.full slot.new.held.value) }
+    ensures { TakesEventOf worker result (events.Start worker)
+        (holding slot.old.full slot.old.held.value) (holding slot.new.full slot.new.held.value) }
 {
     if worker >= 256 {
         return refuse_worker(slot);
@@ -95,7 +100,8 @@ pub fn start(alloc: Global, slot: &mut Slot, worker: u32) -> Status
 
 /// Takes the end of a worker's run.
 pub fn finish(alloc: Global, slot: &mut Slot, worker: u32, ending: Ending) -> Status
-    ensures { TakesEventOf worker result (events.Finish worker ending) (holding slot.old.full slot.old.held.value) (holding slot.new.full slot.new.held.value) }
+    ensures { TakesEventOf worker result (events.Finish worker ending)
+        (holding slot.old.full slot.old.held.value) (holding slot.new.full slot.new.held.value) }
 {
     if worker >= 256 {
         return refuse_worker(slot);
@@ -105,7 +111,8 @@ pub fn finish(alloc: Global, slot: &mut Slot, worker: u32, ending: Ending) -> St
 
 /// Refuses an event of a worker that no event can name.
 fn refuse_worker(slot: &Slot) -> Status
-    ensures { RefusesWorker result (holding slot.now.full slot.now.held.value) (holding slot.now.full slot.now.held.value) }
+    ensures { RefusesWorker result (holding slot.now.full slot.now.held.value)
+        (holding slot.now.full slot.now.held.value) }
 {
     if slot.full {
         Status::NoWorker
@@ -122,7 +129,8 @@ pub fn text(
     out: &mut [u8],
     copied: &mut Copied,
 ) -> Status
-    ensures { Copies result from out.old out.new copied.new (holding slot.old.full slot.old.held.value) (holding slot.new.full slot.new.held.value) }
+    ensures { Copies result from out.old out.new copied.new
+        (holding slot.old.full slot.old.held.value) (holding slot.new.full slot.new.held.value) }
 {
     *copied = Copied::none();
     let Some(session) = slot.take(alloc) else {
@@ -136,7 +144,8 @@ pub fn text(
 
 /// How far the executor is.
 pub fn read(alloc: Global, slot: &mut Slot, state: &mut State) -> Status
-    ensures { Reads result state.new (holding slot.old.full slot.old.held.value) (holding slot.new.full slot.new.held.value) }
+    ensures { Reads result state.new (holding slot.old.full slot.old.held.value)
+        (holding slot.new.full slot.new.held.value) }
 {
     *state = State::none();
     let Some(session) = slot.take(alloc) else {
@@ -149,7 +158,8 @@ pub fn read(alloc: Global, slot: &mut Slot, state: &mut State) -> Status
 
 /// How far a task is.
 pub fn read_task(alloc: Global, slot: &mut Slot, task: u32, state: &mut TaskState) -> Status
-    ensures { ReadsTask result task state.new (holding slot.old.full slot.old.held.value) (holding slot.new.full slot.new.held.value) }
+    ensures { ReadsTask result task state.new (holding slot.old.full slot.old.held.value)
+        (holding slot.new.full slot.new.held.value) }
 {
     *state = TaskState::none();
     let Some(session) = slot.take(alloc) else {
@@ -168,7 +178,8 @@ pub fn read_task(alloc: Global, slot: &mut Slot, task: u32, state: &mut TaskStat
 
 /// The run that the last event started.
 pub fn read_start(alloc: Global, slot: &mut Slot, started: &mut Started) -> Status
-    ensures { ReadsStart result started.new (holding slot.old.full slot.old.held.value) (holding slot.new.full slot.new.held.value) }
+    ensures { ReadsStart result started.new (holding slot.old.full slot.old.held.value)
+        (holding slot.new.full slot.new.held.value) }
 {
     *started = Started::none();
     let Some(session) = slot.take(alloc) else {

@@ -24,7 +24,9 @@ pub extern "C" fn sched_ref_new(
     limit: u64,
     fault: &mut Fault,
 ) -> u32
-    ensures { Answers result (λ status. Makes status plan.now workers limit fault.new (holding slot.old.full slot.old.held.value) (holding slot.new.full slot.new.held.value)) }
+    ensures { Answers result
+        (λ status. Makes status plan.now workers limit fault.new
+        (holding slot.old.full slot.old.held.value) (holding slot.new.full slot.new.held.value)) }
 {
     calls::new(alloc, slot, plan, workers, limit, fault).number()
 }
@@ -32,7 +34,9 @@ pub extern "C" fn sched_ref_new(
 /// Frees the executor of a slot, which is empty then.
 #[unsafe(no_mangle)]
 pub extern "C" fn sched_ref_free(alloc: Global, slot: &mut Slot) -> u32
-    ensures { Answers result (λ status. Frees status (holding slot.old.full slot.old.held.value) (holding slot.new.full slot.new.held.value)) }
+    ensures { Answers result
+        (λ status. Frees status (holding slot.old.full slot.old.held.value)
+        (holding slot.new.full slot.new.held.value)) }
 {
     calls::free(alloc, slot).number()
 }
@@ -40,7 +44,9 @@ pub extern "C" fn sched_ref_free(alloc: Global, slot: &mut Slot) -> u32
 /// The clock shows a moment, in nanoseconds.
 #[unsafe(no_mangle)]
 pub extern "C" fn sched_ref_clock(alloc: Global, slot: &mut Slot, moment: u64) -> u32
-    ensures { Answers result (λ status. TakesEvent status (events.Clock moment) (holding slot.old.full slot.old.held.value) (holding slot.new.full slot.new.held.value)) }
+    ensures { Answers result
+        (λ status. TakesEvent status (events.Clock moment)
+        (holding slot.old.full slot.old.held.value) (holding slot.new.full slot.new.held.value)) }
 {
     calls::tell(alloc, slot, Event::Clock(moment)).number()
 }
@@ -48,7 +54,9 @@ pub extern "C" fn sched_ref_clock(alloc: Global, slot: &mut Slot, moment: u64) -
 /// A worker asks for work.
 #[unsafe(no_mangle)]
 pub extern "C" fn sched_ref_start(alloc: Global, slot: &mut Slot, worker: u32) -> u32
-    ensures { Answers result (λ status. TakesEventOf worker status (events.Start worker) (holding slot.old.full slot.old.held.value) (holding slot.new.full slot.new.held.value)) }
+    ensures { Answers result
+        (λ status. TakesEventOf worker status (events.Start worker)
+        (holding slot.old.full slot.old.held.value) (holding slot.new.full slot.new.held.value)) }
 {
     calls::start(alloc, slot, worker).number()
 }
@@ -56,7 +64,9 @@ pub extern "C" fn sched_ref_start(alloc: Global, slot: &mut Slot, worker: u32) -
 /// The run of a worker ended with a value.
 #[unsafe(no_mangle)]
 pub extern "C" fn sched_ref_finish(alloc: Global, slot: &mut Slot, worker: u32, value: u64) -> u32
-    ensures { Answers result (λ status. TakesEventOf worker status (events.Finish worker (endings.Value value)) (holding slot.old.full slot.old.held.value) (holding slot.new.full slot.new.held.value)) }
+    ensures { Answers result
+        (λ status. TakesEventOf worker status (events.Finish worker (endings.Value value))
+        (holding slot.old.full slot.old.held.value) (holding slot.new.full slot.new.held.value)) }
 {
     calls::finish(alloc, slot, worker, Ending::Value(value)).number()
 }
@@ -64,7 +74,9 @@ pub extern "C" fn sched_ref_finish(alloc: Global, slot: &mut Slot, worker: u32, 
 /// The run of a worker failed, with a code.
 #[unsafe(no_mangle)]
 pub extern "C" fn sched_ref_fail(alloc: Global, slot: &mut Slot, worker: u32, code: u32) -> u32
-    ensures { Answers result (λ status. TakesEventOf worker status (events.Finish worker (endings.Fault code)) (holding slot.old.full slot.old.held.value) (holding slot.new.full slot.new.held.value)) }
+    ensures { Answers result
+        (λ status. TakesEventOf worker status (events.Finish worker (endings.Fault code))
+        (holding slot.old.full slot.old.held.value) (holding slot.new.full slot.new.held.value)) }
 {
     calls::finish(alloc, slot, worker, Ending::Fault(code)).number()
 }
@@ -72,7 +84,9 @@ pub extern "C" fn sched_ref_fail(alloc: Global, slot: &mut Slot, worker: u32, co
 /// A cancel of a task is asked for from outside the plan.
 #[unsafe(no_mangle)]
 pub extern "C" fn sched_ref_cancel(alloc: Global, slot: &mut Slot, task: u32) -> u32
-    ensures { Answers result (λ status. TakesEvent status (events.Cancel task) (holding slot.old.full slot.old.held.value) (holding slot.new.full slot.new.held.value)) }
+    ensures { Answers result
+        (λ status. TakesEvent status (events.Cancel task)
+        (holding slot.old.full slot.old.held.value) (holding slot.new.full slot.new.held.value)) }
 {
     calls::tell(alloc, slot, Event::Cancel(task)).number()
 }
@@ -87,7 +101,9 @@ pub extern "C" fn sched_ref_text(
     out: &mut [u8],
     copied: &mut Copied,
 ) -> u32
-    ensures { Answers result (λ status. Copies status from out.old out.new copied.new (holding slot.old.full slot.old.held.value) (holding slot.new.full slot.new.held.value)) }
+    ensures { Answers result
+        (λ status. Copies status from out.old out.new copied.new
+        (holding slot.old.full slot.old.held.value) (holding slot.new.full slot.new.held.value)) }
 {
     calls::text(alloc, slot, from, out, copied).number()
 }
@@ -95,7 +111,9 @@ pub extern "C" fn sched_ref_text(
 /// How far the executor is.
 #[unsafe(no_mangle)]
 pub extern "C" fn sched_ref_state_of(alloc: Global, slot: &mut Slot, state: &mut State) -> u32
-    ensures { Answers result (λ status. Reads status state.new (holding slot.old.full slot.old.held.value) (holding slot.new.full slot.new.held.value)) }
+    ensures { Answers result
+        (λ status. Reads status state.new (holding slot.old.full slot.old.held.value)
+        (holding slot.new.full slot.new.held.value)) }
 {
     calls::read(alloc, slot, state).number()
 }
@@ -108,7 +126,9 @@ pub extern "C" fn sched_ref_task_of(
     task: u32,
     state: &mut TaskState,
 ) -> u32
-    ensures { Answers result (λ status. ReadsTask status task state.new (holding slot.old.full slot.old.held.value) (holding slot.new.full slot.new.held.value)) }
+    ensures { Answers result
+        (λ status. ReadsTask status task state.new (holding slot.old.full slot.old.held.value)
+        (holding slot.new.full slot.new.held.value)) }
 {
     calls::read_task(alloc, slot, task, state).number()
 }
@@ -116,7 +136,9 @@ pub extern "C" fn sched_ref_task_of(
 /// The run that the last event started: which task, its run and due moment, and by which worker.
 #[unsafe(no_mangle)]
 pub extern "C" fn sched_ref_started(alloc: Global, slot: &mut Slot, started: &mut Started) -> u32
-    ensures { Answers result (λ status. ReadsStart status started.new (holding slot.old.full slot.old.held.value) (holding slot.new.full slot.new.held.value)) }
+    ensures { Answers result
+        (λ status. ReadsStart status started.new (holding slot.old.full slot.old.held.value)
+        (holding slot.new.full slot.new.held.value)) }
 {
     calls::read_start(alloc, slot, started).number()
 }

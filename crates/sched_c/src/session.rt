@@ -59,9 +59,14 @@ impl Session {
         ensures refused { result ≡ false → self.new ≡ self.old }
         ensures below { IsTrue result → self.old.core.taken < self.old.core.limit }
         ensures taken { IsTrue result → self.new.core.taken ≡ self.old.core.taken + 1 }
-        ensures steps { IsTrue result → Steps self.old.core self.new.core [] self.new.lines (part_of self.old.core.calls self.old.core.made self.old.core.moment event) }
-        ensures errors { IsTrue result → ErrorOnlyCounts self.old.core self.new.core [] self.new.lines event }
-        ensures history { IsTrue result → (past : List HistoryEntry) → IsHistoryOf self.old.core.calls (workers_of self.old.core) past → Stands self.old.core past
+        ensures steps { IsTrue result
+            → Steps self.old.core self.new.core [] self.new.lines
+            (part_of self.old.core.calls self.old.core.made self.old.core.moment event) }
+        ensures errors { IsTrue result
+            → ErrorOnlyCounts self.old.core self.new.core [] self.new.lines event }
+        ensures history { IsTrue result → (past : List HistoryEntry)
+            → IsHistoryOf self.old.core.calls (workers_of self.old.core) past
+            → Stands self.old.core past
             → Continues self.old.core self.new.core [] self.new.lines event past }
     {
         if self.core.full() {

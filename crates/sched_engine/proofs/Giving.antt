@@ -55,6 +55,14 @@ lines_on lines i d low =
     let line = slice_index_or lines i d in
     ap lines_text (take_more lines i d low) ∙ (flat_map-append line_text (take i lines) (line ∷ []) ∙ ap (λ l. lines_text (take i lines) ++ l) (flat_map-cons line_text line [] ∙ append-nil (line_text line)))
 
+-- one line more was put, where room was made for it
+pub gives_line : (old here roomy : Output) (text : List ℕ) (lines : List Line) (i : ℕ) (d : Line) → i < length lines → Gives old here (lines_text (take i lines)) → Gives here roomy []
+    → text ≡ roomy.text ++ line_text (slice_index_or lines i d) → Gives old (record { contents = roomy.contents; text = text }) (lines_text (take (i + 1) lines))
+gives_line old here roomy text lines i d low given made is =
+    let so_far = lines_text (take i lines) in
+    let all : Gives old roomy so_far = subst (Gives old roomy) (append-nil so_far) (gives_both old here roomy so_far [] given made) in
+    subst (Gives old (record { contents = roomy.contents; text = text })) (sym (lines_on lines i d low)) (gives_put old roomy so_far (line_text (slice_index_or lines i d)) text all is)
+
 -- the text of some lines is that of the first of them, and then of the others
 pub lines_split : (lines : List Line) (i : ℕ) → lines_text lines ≡ lines_text (take i lines) ++ lines_text (drop i lines)
 lines_split lines i = ap lines_text (sym (take-append-drop i lines)) ∙ lines_text-append (take i lines) (drop i lines)

@@ -39,7 +39,8 @@ pub struct Answered {
 fn make_room<A: Allocator>(lines: &mut Vec<Line, A>, count: usize) -> bool
     ensures clear { lines.new.items ≡ [] }
     ensures room { IsTrue result → count ≤ vec_capacity lines.new }
-    ensures enough { count ≤ vec_capacity lines.old → IsTrue result × (vec_capacity lines.new ≡ vec_capacity lines.old) }
+    ensures enough { count ≤ vec_capacity lines.old
+        → IsTrue result × (vec_capacity lines.new ≡ vec_capacity lines.old) }
 {
     lines.clear();
     count <= lines.capacity() || lines.reserve(count).is_ok()
@@ -59,12 +60,21 @@ pub fn answer_events<A: Allocator, W: Sink>(
     writer: &mut W,
 ) -> Option<Answered>
     requires { StandsAfterEvents core.old }
-    ensures answered { IfSome result (λ a. IsAnswered core.old core.new held.now a.bytes (record { contents = W.contents writer.old; text = draft.old }) (record { contents = W.contents writer.new; text = draft.new }) a.lines) }
+    ensures answered { IfSome result
+        (λ a. IsAnswered core.old core.new held.now a.bytes
+        (record { contents = W.contents writer.old; text = draft.old })
+        (record { contents = W.contents writer.new; text = draft.new }) a.lines) }
     ensures within { IfSome result (λ _. core.new.taken ≤ core.new.limit) }
     ensures end { IfSome result (λ a. IsPieceEnd a.end core.new (drop a.bytes held.now)) }
-    ensures memory { IfSome result (λ a. a.end ≡ PieceEnd.Memory → WantsRoom core.old held.now (record { contents = W.contents writer.old; text = draft.old }) (vec_capacity lines.old)) }
-    ensures cut { IsNone result → IsCut core.old held.now (record { contents = W.contents writer.old; text = draft.old }) (W.contents writer.new) }
-    ensures write { CountsTries (is_some result) (W.failed writer.old) (W.fruitless writer.old) (W.failed writer.new) (W.fruitless writer.new) }
+    ensures memory { IfSome result
+        (λ a. a.end ≡ PieceEnd.Memory
+        → WantsRoom core.old held.now
+        (record { contents = W.contents writer.old; text = draft.old }) (vec_capacity lines.old)) }
+    ensures cut { IsNone result
+        → IsCut core.old held.now (record { contents = W.contents writer.old; text = draft.old })
+        (W.contents writer.new) }
+    ensures write { CountsTries (is_some result) (W.failed writer.old) (W.fruitless writer.old)
+        (W.failed writer.new) (W.fruitless writer.new) }
 {
     let mut rest = held;
     let mut count = 0;

@@ -43,9 +43,12 @@ pub fn run<A: HeapAllocator, S: Source, W: Sink>(
     reader: &mut S,
     writer: &mut W,
 ) -> Result<Report, RunError>
-    ensures ran { Ran result plan_text.now workers limit (S.remaining reader.old) (S.remaining reader.new) (W.contents writer.old) (W.contents writer.new) }
-    ensures read { CountsReader result (S.failed reader.old) (S.fruitless reader.old) (S.failed reader.new) (S.fruitless reader.new) }
-    ensures write { CountsWriter result (W.failed writer.old) (W.fruitless writer.old) (W.failed writer.new) (W.fruitless writer.new) }
+    ensures ran { Ran result plan_text.now workers limit (S.remaining reader.old)
+        (S.remaining reader.new) (W.contents writer.old) (W.contents writer.new) }
+    ensures read { CountsReader result (S.failed reader.old) (S.fruitless reader.old)
+        (S.failed reader.new) (S.fruitless reader.new) }
+    ensures write { CountsWriter result (W.failed writer.old) (W.fruitless writer.old)
+        (W.failed writer.new) (W.fruitless writer.new) }
 {
     let mut engine = Engine::open(alloc, plan_text, workers, limit)?;
     loop {
@@ -144,11 +147,39 @@ impl<A: Allocator> Engine<A> {
         reader: &mut S,
         writer: &mut W,
     ) -> Result<Turn, StopError>
-        requires { (run : Setting) × IsBetweenTurns run (record { left = S.remaining reader.old; held = self.old.held; text = self.old.draft; contents = W.contents writer.old; core = self.old.core; count = self.old.count }) }
-        ensures turns { (run : Setting) → let old : Progress = record { left = S.remaining reader.old; held = self.old.held; text = self.old.draft; contents = W.contents writer.old; core = self.old.core; count = self.old.count } in
-            IsBetweenTurns run old → Turns result run old (record { left = S.remaining reader.new; held = self.new.held; text = self.new.draft; contents = W.contents writer.new; core = self.new.core; count = self.new.count }) }
-        ensures read { CountsReads result (S.failed reader.old) (S.fruitless reader.old) (S.failed reader.new) (S.fruitless reader.new) }
-        ensures write { CountsWrites result (W.failed writer.old) (W.fruitless writer.old) (W.failed writer.new) (W.fruitless writer.new) }
+        requires { (run : Setting)
+            × IsBetweenTurns run
+            (record {
+              left = S.remaining reader.old;
+              held = self.old.held;
+              text = self.old.draft;
+              contents = W.contents writer.old;
+              core = self.old.core;
+              count = self.old.count;
+            }) }
+        ensures turns { (run : Setting)
+            → let old : Progress = record {
+              left = S.remaining reader.old;
+              held = self.old.held;
+              text = self.old.draft;
+              contents = W.contents writer.old;
+              core = self.old.core;
+              count = self.old.count;
+            } in
+            IsBetweenTurns run old
+            → Turns result run old
+            (record {
+              left = S.remaining reader.new;
+              held = self.new.held;
+              text = self.new.draft;
+              contents = W.contents writer.new;
+              core = self.new.core;
+              count = self.new.count;
+            }) }
+        ensures read { CountsReads result (S.failed reader.old) (S.fruitless reader.old)
+            (S.failed reader.new) (S.fruitless reader.new) }
+        ensures write { CountsWrites result (W.failed writer.old) (W.fruitless writer.old)
+            (W.failed writer.new) (W.fruitless writer.new) }
     {
         match self.held.fill(reader) {
             Filled::More => {}
@@ -175,15 +206,39 @@ impl<A: Allocator> Engine<A> {
     fn answer_held<W: Sink>(&mut self, writer: &mut W) -> Option<PieceEnd>
         requires standing { StandsAfterEvents self.old.core }
         requires few { self.old.count < 2 ^ 34 }
-        ensures done { IsSome result → ((run : Setting) (left : Option (List ℕ)) →
-            Done run (record { left = left; held = self.old.held; text = self.old.draft; contents = W.contents writer.old; core = self.old.core; count = self.old.count }) →
-            Done run (record { left = left; held = self.new.held; text = self.new.draft; contents = W.contents writer.new; core = self.new.core; count = self.new.count })) }
+        ensures done { IsSome result
+            → ((run : Setting) (left : Option (List ℕ))
+            → Done run
+            (record {
+              left = left;
+              held = self.old.held;
+              text = self.old.draft;
+              contents = W.contents
+                  writer.old;
+              core = self.old.core;
+              count = self.old.count;
+            })
+            → Done run
+            (record {
+              left = left;
+              held = self.new.held;
+              text = self.new.draft;
+              contents = W.contents
+                  writer.new;
+              core = self.new.core;
+              count = self.new.count;
+            })) }
         ensures end { IfSome result (λ end. IsPieceEnd end self.new.core self.new.held) }
-        ensures cut { IsNone result → IsCut self.old.core self.old.held (record { contents = W.contents writer.old; text = self.old.draft }) (W.contents writer.new) }
-        ensures write { CountsTries (is_some result) (W.failed writer.old) (W.fruitless writer.old) (W.failed writer.new) (W.fruitless writer.new) }
+        ensures cut { IsNone result
+            → IsCut self.old.core self.old.held
+            (record { contents = W.contents writer.old; text = self.old.draft })
+            (W.contents writer.new) }
+        ensures write { CountsTries (is_some result) (W.failed writer.old) (W.fruitless writer.old)
+            (W.failed writer.new) (W.fruitless writer.new) }
         ensures fewer { IsSome result → (length self.new.held ≤ length self.old.held) }
         ensures rises { IsSome result → (self.old.core.taken ≤ self.new.core.taken) }
-        ensures same { IsSome result → (self.new.core.taken ≡ self.old.core.taken → self.new.held ≡ self.old.held) }
+        ensures same { IsSome result
+            → (self.new.core.taken ≡ self.old.core.taken → self.new.held ≡ self.old.held) }
     {
         let answered = answer_events(
             &mut self.core,
@@ -200,8 +255,11 @@ impl<A: Allocator> Engine<A> {
     /// What the run comes to at the end of the input: a part of a line is no event line.
     fn end(&self) -> Result<Turn, StopError>
         ensures { MatchResult result
-            (λ turn. (turn ≡ t.Ended (record { events = self.now.core.taken; lines = self.now.count })) × (self.now.held ≡ []))
-            (λ e. (e ≡ StopError.EventLine (self.now.core.taken + 1)) × (0 < length self.now.held)) }
+            (λ turn.
+            (turn ≡ t.Ended (record { events = self.now.core.taken; lines = self.now.count }))
+            × (self.now.held ≡ []))
+            (λ e. (e ≡ StopError.EventLine (self.now.core.taken + 1))
+            × (0 < length self.now.held)) }
     {
         if !self.held.bytes().is_empty() {
             return Err(self.refused_line());

@@ -19,7 +19,8 @@ pub fn write_listing<A: HeapAllocator, W: Sink>(
     writer: &mut W,
 ) -> Result<(), RunError>
     ensures listed { Listed result plan_text.now (W.contents writer.old) (W.contents writer.new) }
-    ensures write { CountsListing result (W.failed writer.old) (W.fruitless writer.old) (W.failed writer.new) (W.fruitless writer.new) }
+    ensures write { CountsListing result (W.failed writer.old) (W.fruitless writer.old)
+        (W.failed writer.new) (W.fruitless writer.new) }
 {
     let text = listing_of(alloc, plan_text)?;
     if write_text(writer, text.as_bytes()) {

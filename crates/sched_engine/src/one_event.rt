@@ -31,10 +31,16 @@ pub fn answer_event<A: Allocator, W: Sink>(
     requires below { core.old.taken < core.old.limit }
     requires clear { lines.old.items ≡ [] }
     requires room { room_of core.old ≤ vec_capacity lines.old }
-    ensures takes { IfSome result (λ count. TakesEvent core.old core.new event (record { contents = W.contents writer.old; text = draft.old }) (record { contents = W.contents writer.new; text = draft.new }) count) }
-    ensures cut { IfNone result (CutsSteps core.old (part_of core.old.calls core.old.made core.old.moment event) (record { contents = W.contents writer.old; text = draft.old }) (W.contents writer.new)) }
+    ensures takes { IfSome result
+        (λ count. TakesEvent core.old core.new event
+        (record { contents = W.contents writer.old; text = draft.old })
+        (record { contents = W.contents writer.new; text = draft.new }) count) }
+    ensures cut { IfNone result
+        (CutsSteps core.old (part_of core.old.calls core.old.made core.old.moment event)
+        (record { contents = W.contents writer.old; text = draft.old }) (W.contents writer.new)) }
     ensures capacity { vec_capacity lines.new ≡ vec_capacity lines.old }
-    ensures counts { CountsLines result (W.failed writer.old) (W.fruitless writer.old) (W.failed writer.new) (W.fruitless writer.new) }
+    ensures counts { CountsLines result (W.failed writer.old) (W.fruitless writer.old)
+        (W.failed writer.new) (W.fruitless writer.new) }
 {
     core.count();
     let mut count = 0;
@@ -59,16 +65,24 @@ fn give<A: Allocator, W: Sink>(
     requires counted { IsCounted core.old }
     requires clear { lines.old.items ≡ [] }
     requires room { room_of core.old ≤ vec_capacity lines.old }
-    ensures steps { Steps core.old core.new [] (answers_to core.old (happening ∷ [])) (happening ∷ []) }
-    ensures gives { IfSome result (λ count. GivesSteps core.old core.new (happening ∷ []) (record { contents = W.contents writer.old; text = draft.old }) (record { contents = W.contents writer.new; text = draft.new }) count) }
-    ensures cut { IfNone result (CutsSteps core.old (happening ∷ []) (record { contents = W.contents writer.old; text = draft.old }) (W.contents writer.new)) }
-    ensures room { IfSome result (λ count. is_call happening ≡ true → count + room_of core.new ≤ room_of core.old) }
+    ensures steps { Steps core.old core.new [] (answers_to core.old (happening ∷ []))
+        (happening ∷ []) }
+    ensures gives { IfSome result
+        (λ count. GivesSteps core.old core.new (happening ∷ [])
+        (record { contents = W.contents writer.old; text = draft.old })
+        (record { contents = W.contents writer.new; text = draft.new }) count) }
+    ensures cut { IfNone result
+        (CutsSteps core.old (happening ∷ [])
+        (record { contents = W.contents writer.old; text = draft.old }) (W.contents writer.new)) }
+    ensures room { IfSome result
+        (λ count. is_call happening ≡ true → count + room_of core.new ≤ room_of core.old) }
     ensures few { IfSome result (λ count. count ≤ room_of core.old) }
     ensures counted { is_call happening ≡ true → IsCounted core.new }
     ensures taken { core.new.taken ≡ core.old.taken }
     ensures clear { IfSome result (λ _. lines.new.items ≡ []) }
     ensures capacity { vec_capacity lines.new ≡ vec_capacity lines.old }
-    ensures counts { CountsLines result (W.failed writer.old) (W.fruitless writer.old) (W.failed writer.new) (W.fruitless writer.new) }
+    ensures counts { CountsLines result (W.failed writer.old) (W.fruitless writer.old)
+        (W.failed writer.new) (W.fruitless writer.new) }
 {
     core.happen(happening, lines);
     if !draft.give_lines(lines, writer) {

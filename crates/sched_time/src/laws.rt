@@ -20,9 +20,14 @@ pub fn longest_is_the_limit()
 /// run after it. Run 0 is due at the first due moment.
 pub fn next_due_is_the_due_moment_of_the_next_run()
     ensures first { (timing : Timing) (first : ℕ) → due_of_run timing first 0 None ≡ first }
-    ensures once { (first n finished : ℕ) (last : Option ℕ) → next_due Timing.Once (due_of_run Timing.Once first n last) finished ≡ None }
-    ensures rate { (period first n finished : ℕ) (last : Option ℕ) → next_due (Timing.Rate period) (due_of_run (Timing.Rate period) first n last) finished ≡ Some (due_of_run (Timing.Rate period) first (n + 1) (Some finished)) }
-    ensures fixed { (delay first n finished : ℕ) (last : Option ℕ) → next_due (Timing.Fixed delay) (due_of_run (Timing.Fixed delay) first n last) finished ≡ Some (due_of_run (Timing.Fixed delay) first (n + 1) (Some finished)) }
+    ensures once { (first n finished : ℕ) (last : Option ℕ)
+        → next_due Timing.Once (due_of_run Timing.Once first n last) finished ≡ None }
+    ensures rate { (period first n finished : ℕ) (last : Option ℕ)
+        → next_due (Timing.Rate period) (due_of_run (Timing.Rate period) first n last) finished
+        ≡ Some (due_of_run (Timing.Rate period) first (n + 1) (Some finished)) }
+    ensures fixed { (delay first n finished : ℕ) (last : Option ℕ)
+        → next_due (Timing.Fixed delay) (due_of_run (Timing.Fixed delay) first n last) finished
+        ≡ Some (due_of_run (Timing.Fixed delay) first (n + 1) (Some finished)) }
 {}
 
 /// Two spans compare as equal exactly when they are the same.

@@ -15,8 +15,11 @@ use std::alloc::Allocator;
 
 /// Where the entry of a slot stands, or `None` where it has none.
 pub(crate) fn place_of<R: Rank>(heap: &[Entry<R>], places: &[u32], slot: u32) -> Option<usize>
-    ensures found { IfSome result (λ place. (place < length (seen_all R.rank heap.now)) × ((entry_at (seen_all R.rank heap.now) place).slot ≡ slot)) }
-    ensures missing { IfNone result (slot < length places.now → key_in_heap (seen_all R.rank heap.now) places.now slot ≡ None) }
+    ensures found { IfSome result
+        (λ place. (place < length (seen_all R.rank heap.now))
+        × ((entry_at (seen_all R.rank heap.now) place).slot ≡ slot)) }
+    ensures missing { IfNone result
+        (slot < length places.now → key_in_heap (seen_all R.rank heap.now) places.now slot ≡ None) }
 {
     let place = *places.get(slot as usize)? as usize;
     match heap.get(place) {
@@ -38,7 +41,8 @@ fn put<R: Rank>(heap: &mut [Entry<R>], places: &mut [u32], place: usize, entry: 
     requires inside { place < length heap.old }
     requires known { entry.slot < length places.old }
     requires few { length heap.old < 2 ^ 32 }
-    ensures heap { seen_all R.rank heap.new ≡ slice_set (seen_all R.rank heap.old) place (seen R.rank entry) }
+    ensures heap { seen_all R.rank heap.new
+        ≡ slice_set (seen_all R.rank heap.old) place (seen R.rank entry) }
     ensures heap_length { length heap.new ≡ length heap.old }
     ensures places { places.new ≡ slice_set places.old entry.slot place }
 {
@@ -62,11 +66,15 @@ pub(crate) fn rise<R: Rank>(
     requires placed { IsPlacedWith (seen_all R.rank heap.old) places.old hole (seen R.rank entry) }
     ensures heap { IsHeap (seen_all R.rank heap.new) }
     ensures placed { IsPlaced (seen_all R.rank heap.new) places.new }
-    ensures keys { (slot : ℕ) → key_in_heap (seen_all R.rank heap.new) places.new slot ≡ key_with (seen_all R.rank heap.old) places.old hole (seen R.rank entry) slot }
+    ensures keys { (slot : ℕ)
+        → key_in_heap (seen_all R.rank heap.new) places.new slot
+        ≡ key_with (seen_all R.rank heap.old) places.old hole (seen R.rank entry) slot }
     ensures heap_length { length heap.new ≡ length heap.old }
     ensures places_length { length places.new ≡ length places.old }
-    ensures exact { result ≡ (risen hole (seen R.rank entry) (moving (seen_all R.rank heap.old) hole 0)).touches }
-    ensures touches { let place = slice_index_or places.new entry.slot 0 in result + 2 * binary_digits (place + 1) ≡ 2 * binary_digits (hole + 1) + (if place == 0 then 0 else 1) }
+    ensures exact { result
+        ≡ (risen hole (seen R.rank entry) (moving (seen_all R.rank heap.old) hole 0)).touches }
+    ensures touches { let place = slice_index_or places.new entry.slot 0 in result + 2 *
+        binary_digits (place + 1) ≡ 2 * binary_digits (hole + 1) + (if place == 0 then 0 else 1) }
 {
     let mut touches = 0;
     while hole > 0 {
@@ -92,9 +100,11 @@ fn sink<R: Rank>(heap: &mut [Entry<R>], places: &mut [u32], mut hole: usize) -> 
     requires few { length heap.old < 2 ^ 32 }
     requires around { IsHeapAround (seen_all R.rank heap.old) hole }
     requires placed { (e : Seen) × IsPlacedWith (seen_all R.rank heap.old) places.old hole e }
-    ensures moves { MovesHole (seen_all R.rank heap.old) places.old hole (seen_all R.rank heap.new) places.new result.0 }
+    ensures moves { MovesHole (seen_all R.rank heap.old) places.old hole (seen_all R.rank heap.new)
+        places.new result.0 }
     ensures around { IsHeapAround (seen_all R.rank heap.new) result.0 }
-    ensures exact { moving (seen_all R.rank heap.new) result.0 result.1 ≡ sunk_from (seen_all R.rank heap.old) hole }
+    ensures exact { moving (seen_all R.rank heap.new) result.0 result.1
+        ≡ sunk_from (seen_all R.rank heap.old) hole }
     ensures heap_length { length heap.new ≡ length heap.old }
     ensures lowest { length heap.new ≤ 2 * result.0 + 1 }
     ensures few { result.1 + 2 * binary_digits (hole + 1) ≤ 2 * binary_digits (result.0 + 1) }
@@ -129,7 +139,9 @@ fn replace<R: Rank>(heap: &mut [Entry<R>], places: &mut [u32], place: usize, ent
     requires placed { IsPlacedWith (seen_all R.rank heap.old) places.old place (seen R.rank entry) }
     ensures heap { IsHeap (seen_all R.rank heap.new) }
     ensures placed { IsPlaced (seen_all R.rank heap.new) places.new }
-    ensures keys { (slot : ℕ) → key_in_heap (seen_all R.rank heap.new) places.new slot ≡ key_with (seen_all R.rank heap.old) places.old place (seen R.rank entry) slot }
+    ensures keys { (slot : ℕ)
+        → key_in_heap (seen_all R.rank heap.new) places.new slot
+        ≡ key_with (seen_all R.rank heap.old) places.old place (seen R.rank entry) slot }
     ensures heap_length { length heap.new ≡ length heap.old }
     ensures places_length { length places.new ≡ length places.old }
     ensures exact { result ≡ replace_touches (seen_all R.rank heap.old) place (seen R.rank entry) }
@@ -153,8 +165,11 @@ pub(crate) fn take_out<R: Rank, A: Allocator>(
     requires placed { IsPlaced (seen_all R.rank heap.old.items) places.old }
     ensures heap { IsHeap (seen_all R.rank heap.new.items) }
     ensures placed { IsPlaced (seen_all R.rank heap.new.items) places.new }
-    ensures taken { key_in_heap (seen_all R.rank heap.new.items) places.new (entry_at (seen_all R.rank heap.old.items) place).slot ≡ None }
-    ensures others { (slot : ℕ) → slot ≢ (entry_at (seen_all R.rank heap.old.items) place).slot → key_in_heap (seen_all R.rank heap.new.items) places.new slot ≡ key_in_heap (seen_all R.rank heap.old.items) places.old slot }
+    ensures taken { key_in_heap (seen_all R.rank heap.new.items) places.new
+        (entry_at (seen_all R.rank heap.old.items) place).slot ≡ None }
+    ensures others { (slot : ℕ) → slot ≢ (entry_at (seen_all R.rank heap.old.items) place).slot
+        → key_in_heap (seen_all R.rank heap.new.items) places.new slot
+        ≡ key_in_heap (seen_all R.rank heap.old.items) places.old slot }
     ensures room { vec_capacity heap.new ≡ vec_capacity heap.old }
     ensures places_length { length places.new ≡ length places.old }
     ensures exact { result ≡ take_touches (seen_all R.rank heap.old.items) place }

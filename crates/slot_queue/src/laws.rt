@@ -18,12 +18,16 @@ pub fn entry_equality_tells()
 /// An entry compares as less than another exactly when it comes before it: the earlier moment first, at one moment the
 /// lower rank, and at one rank the smaller slot number.
 pub fn entry_order_tells()
-    ensures { (a b : entry ℕ) → partial_lt ⟦<Entry<u64> as PartialOrd>⟧.partial_cmp a b ≡ is_before (seen ⟦<u64 as Rank>⟧.rank a) (seen ⟦<u64 as Rank>⟧.rank b) }
+    ensures { (a b : entry ℕ)
+        → partial_lt ⟦<Entry<u64> as PartialOrd>⟧.partial_cmp a b
+        ≡ is_before (seen ⟦<u64 as Rank>⟧.rank a) (seen ⟦<u64 as Rank>⟧.rank b) }
 {}
 
 /// The same of entries without a rank: at one moment the smaller slot number first.
 pub fn unranked_order_tells()
-    ensures { (a b : entry no_rank) → partial_lt ⟦<Entry<NoRank> as PartialOrd>⟧.partial_cmp a b ≡ is_before (seen ⟦<NoRank as Rank>⟧.rank a) (seen ⟦<NoRank as Rank>⟧.rank b) }
+    ensures { (a b : entry no_rank)
+        → partial_lt ⟦<Entry<NoRank> as PartialOrd>⟧.partial_cmp a b
+        ≡ is_before (seen ⟦<NoRank as Rank>⟧.rank a) (seen ⟦<NoRank as Rank>⟧.rank b) }
 {}
 
 /// Two errors compare as equal exactly when they are the same.

@@ -111,9 +111,12 @@ impl<R: Rank, A: Allocator> SlotQueue<R, A> {
     pub fn insert(&mut self, entry: Entry<R>)
         requires known { entry.slot < length self.old.entries }
         requires absent { key_in self.old.entries entry.slot ≡ None }
-        ensures inserted { self.new.entries ≡ slice_set self.old.entries entry.slot (Some (key_of (seen R.rank entry))) }
-        ensures touched { Touches self.old.touched self.new.touched (min 1 (entry_count self.old.entries)) (most_touches (entry_count self.old.entries)) }
-        ensures counted { CountsTouches self.old self.new.touched (λ heap times. times ≡ insert_touches heap (seen R.rank entry)) }
+        ensures inserted { self.new.entries
+            ≡ slice_set self.old.entries entry.slot (Some (key_of (seen R.rank entry))) }
+        ensures touched { Touches self.old.touched self.new.touched
+            (min 1 (entry_count self.old.entries)) (most_touches (entry_count self.old.entries)) }
+        ensures counted { CountsTouches self.old self.new.touched
+            (λ heap times. times ≡ insert_touches heap (seen R.rank entry)) }
     {
         let place = self.heap.len();
         self.heap.push_reserved(entry);
@@ -123,7 +126,8 @@ impl<R: Rank, A: Allocator> SlotQueue<R, A> {
 
     /// The least entry, due or not, or `None` where the queue is empty. The entry stays.
     pub fn peek(&self) -> Option<Entry<R>>
-        ensures least { IfSome result (λ e. IsLeast self.now.entries (key_of (seen R.rank e)) e.slot) }
+        ensures least { IfSome result
+            (λ e. IsLeast self.now.entries (key_of (seen R.rank e)) e.slot) }
         ensures empty { IfNone result (IsEmpty self.now.entries) }
     {
         self.heap.first().copied()
@@ -133,13 +137,20 @@ impl<R: Rank, A: Allocator> SlotQueue<R, A> {
     ///
     /// `None` says that no entry is due at `now`; the queue is then unchanged.
     pub fn poll(&mut self, now: u64) -> Option<Entry<R>>
-        ensures least { IfSome result (λ e. IsLeast self.old.entries (key_of (seen R.rank e)) e.slot) }
+        ensures least { IfSome result
+            (λ e. IsLeast self.old.entries (key_of (seen R.rank e)) e.slot) }
         ensures due { IfSome result (λ e. e.due ≤ now) }
-        ensures removed { IfSome result (λ e. self.new.entries ≡ slice_set self.old.entries e.slot None) }
+        ensures removed { IfSome result
+            (λ e. self.new.entries ≡ slice_set self.old.entries e.slot None) }
         ensures none_due { IfNone result (NoneIsDue self.old.entries now) }
         ensures unchanged { IfNone result (self.new.entries ≡ self.old.entries) }
-        ensures touched { IfSome result (λ _. Touches self.old.touched self.new.touched (min 1 (entry_count self.old.entries - 1)) (most_touches (entry_count self.old.entries))) }
-        ensures counted { IfSome result (λ _. CountsTouches self.old self.new.touched (λ heap times. times ≡ take_touches heap 0)) }
+        ensures touched { IfSome result
+            (λ _. Touches self.old.touched self.new.touched
+            (min 1 (entry_count self.old.entries - 1))
+            (most_touches (entry_count self.old.entries))) }
+        ensures counted { IfSome result
+            (λ _. CountsTouches self.old self.new.touched
+            (λ heap times. times ≡ take_touches heap 0)) }
         ensures untouched { IfNone result (self.new.touched ≡ self.old.touched) }
     {
         let least = *self.heap.first()?;
@@ -157,9 +168,13 @@ impl<R: Rank, A: Allocator> SlotQueue<R, A> {
         ensures there { result ≡ is_some (key_in self.old.entries slot) }
         ensures removed { self.new.entries ≡ slice_set self.old.entries slot None }
         ensures unchanged { result ≡ false → self.new.entries ≡ self.old.entries }
-        ensures touched { Touches self.old.touched self.new.touched 0 (most_touches (entry_count self.old.entries)) }
-        ensures least { (key : Key) → IsLeast self.old.entries key slot → Touches self.old.touched self.new.touched (min 1 (entry_count self.old.entries - 1)) (most_touches (entry_count self.old.entries)) }
-        ensures counted { result ≡ true → CountsTouches self.old self.new.touched (RemovalMakes slot) }
+        ensures touched { Touches self.old.touched self.new.touched 0
+            (most_touches (entry_count self.old.entries)) }
+        ensures least { (key : Key) → IsLeast self.old.entries key slot
+            → Touches self.old.touched self.new.touched (min 1 (entry_count self.old.entries - 1))
+            (most_touches (entry_count self.old.entries)) }
+        ensures counted { result ≡ true
+            → CountsTouches self.old self.new.touched (RemovalMakes slot) }
         ensures untouched { result ≡ false → self.new.touched ≡ self.old.touched }
     {
         let Some(place) = place_of(&self.heap, &self.places, slot) else {

@@ -12,7 +12,8 @@ pub fn names_of_tasks<'a, A: Allocator, B: Allocator>(
     alloc: A,
     plan: &'a Plan<B>,
 ) -> Result<Vec<&'a Name, A>, AllocError>
-    ensures { IfOk result (λ names. map (λ n. n.now) names.items ≡ map (λ s. s.name) (submissions_of_plan plan.now)) }
+    ensures { IfOk result
+        (λ names. map (λ n. n.now) names.items ≡ map (λ s. s.name) (submissions_of_plan plan.now)) }
 {
     let mut names = Vec::new(alloc);
     let mut submissions = Submissions::new(plan);

@@ -25,8 +25,10 @@ pub fn write_tasks<A: HeapAllocator, W: Sink>(
     plan_text: &[u8],
     writer: &mut W,
 ) -> Result<(), RunError>
-    ensures tasks { TasksWritten result plan_text.now (W.contents writer.old) (W.contents writer.new) }
-    ensures write { CountsListing result (W.failed writer.old) (W.fruitless writer.old) (W.failed writer.new) (W.fruitless writer.new) }
+    ensures tasks { TasksWritten result plan_text.now (W.contents writer.old)
+        (W.contents writer.new) }
+    ensures write { CountsListing result (W.failed writer.old) (W.fruitless writer.old)
+        (W.failed writer.new) (W.fruitless writer.new) }
 {
     let plan = plan_of(alloc, plan_text)?;
     let page = Page::new(alloc)?;
@@ -55,8 +57,10 @@ pub fn write_lines<A: Allocator, B: Allocator, W: Sink>(
     writer: &mut W,
 ) -> bool
     requires { page ≡ [] }
-    ensures bytes { WritesText result (W.contents writer.old) (W.contents writer.new) (tasks_text plan.now) }
-    ensures counts { CountsTries result (W.failed writer.old) (W.fruitless writer.old) (W.failed writer.new) (W.fruitless writer.new) }
+    ensures bytes { WritesText result (W.contents writer.old) (W.contents writer.new)
+        (tasks_text plan.now) }
+    ensures counts { CountsTries result (W.failed writer.old) (W.fruitless writer.old)
+        (W.failed writer.new) (W.fruitless writer.new) }
 {
     let mut submissions = Submissions::new(plan);
     while let Some(submission) = submissions.next() {
@@ -71,8 +75,10 @@ pub fn write_lines<A: Allocator, B: Allocator, W: Sink>(
 /// Makes room for a line: where there is none, the text of the page is written. `false` is a fault of the sink, after a front of
 /// that text was written.
 fn make_room<A: Allocator, W: Sink>(page: &mut Page<A>, writer: &mut W) -> bool
-    ensures room { MakesRoom result (W.contents writer.old) page.old (W.contents writer.new) page.new }
-    ensures counts { CountsTries result (W.failed writer.old) (W.fruitless writer.old) (W.failed writer.new) (W.fruitless writer.new) }
+    ensures room { MakesRoom result (W.contents writer.old) page.old (W.contents writer.new)
+        page.new }
+    ensures counts { CountsTries result (W.failed writer.old) (W.fruitless writer.old)
+        (W.failed writer.new) (W.fruitless writer.new) }
 {
     if page.has_room() {
         return true;

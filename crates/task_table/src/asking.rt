@@ -23,9 +23,11 @@ impl<A: Allocator> TaskTable<A> {
         ensures queue { result.queue ≡ queue_in self.old.slots }
         ensures running { result.running ≡ how_many is_some self.old.work }
         ensures shutdown { result.shutdown ≡ self.old.shut }
-        ensures terminated { result.terminated ≡ is_terminated self.old.shut result.queue result.running }
+        ensures terminated { result.terminated
+            ≡ is_terminated self.old.shut result.queue result.running }
         ensures slots { self.new ≡ changes.at_moment self.old at }
-        ensures steps { CallSteps self.old self.new (at, call.Ask) (bare (answer.Ask result.queue result.running result.shutdown result.terminated)) }
+        ensures steps { CallSteps self.old self.new (at, call.Ask)
+            (bare (answer.Ask result.queue result.running result.shutdown result.terminated)) }
     {
         let queue = self.queued();
         let running = self.running();

@@ -35,9 +35,13 @@ impl<A: Allocator> TaskTable<A> {
         requires moment { self.old.moment ≤ at }
         requires limit { at ≤ longest }
         requires there { (x : seats.Seat) × (slot_of self.old.slots slot ≡ Some x) }
-        ensures effect { (x : seats.Seat) → slot_of self.old.slots slot ≡ Some x → result ≡ effect_of x }
-        ensures slots { (x : seats.Seat) → slot_of self.old.slots slot ≡ Some x → self.new ≡ changes.at_moment (changes.cancel_in self.old slot x) at }
-        ensures steps { (x : seats.Seat) → slot_of self.old.slots slot ≡ Some x → CallSteps self.old self.new (at, call.Cancel x.number) (bare (answer.Cancel x.number result)) }
+        ensures effect { (x : seats.Seat) → slot_of self.old.slots slot ≡ Some x
+            → result ≡ effect_of x }
+        ensures slots { (x : seats.Seat) → slot_of self.old.slots slot ≡ Some x
+            → self.new ≡ changes.at_moment (changes.cancel_in self.old slot x) at }
+        ensures steps { (x : seats.Seat) → slot_of self.old.slots slot ≡ Some x
+            → CallSteps self.old self.new (at, call.Cancel x.number)
+            (bare (answer.Cancel x.number result)) }
     {
         let effect = self.cancel_held(slot);
         self.pass(at);
@@ -49,9 +53,13 @@ impl<A: Allocator> TaskTable<A> {
     #[inline(always)]
     pub fn cancel(&mut self, slot: u32) -> CancelEffect
         requires there { (x : seats.Seat) × (slot_of self.old.slots slot ≡ Some x) }
-        ensures effect { (x : seats.Seat) → slot_of self.old.slots slot ≡ Some x → result ≡ effect_of x }
-        ensures slots { (x : seats.Seat) → slot_of self.old.slots slot ≡ Some x → self.new ≡ changes.cancel_in self.old slot x }
-        ensures steps { (x : seats.Seat) → slot_of self.old.slots slot ≡ Some x → EventSteps self.old self.new (happening.Cancel x.number) (bare (answer.Outside x.number result)) }
+        ensures effect { (x : seats.Seat) → slot_of self.old.slots slot ≡ Some x
+            → result ≡ effect_of x }
+        ensures slots { (x : seats.Seat) → slot_of self.old.slots slot ≡ Some x
+            → self.new ≡ changes.cancel_in self.old slot x }
+        ensures steps { (x : seats.Seat) → slot_of self.old.slots slot ≡ Some x
+            → EventSteps self.old self.new (happening.Cancel x.number)
+            (bare (answer.Outside x.number result)) }
     {
         self.cancel_held(slot)
     }
@@ -62,9 +70,17 @@ impl<A: Allocator> TaskTable<A> {
         requires moment { self.old.moment ≤ at }
         requires limit { at ≤ longest }
         ensures slots { self.new ≡ changes.at_moment self.old at }
-        ensures gone { (number : ℕ) → IsNew self.old.slots number → (calls : List Planned) (past : List HistoryEntry) → Stands self.old calls past → IsNextCall calls past (at, call.Cancel number)
-            → Takes self.new calls past happening.Call (bare (answer.Cancel number (effect_gone ((after calls (workers_of self.old) (happenings past)).tasks number).phase))) }
-        ensures illegal { (number : ℕ) → CallSteps self.old self.new (at, call.Illegal number) (bare (answer.Refuse number refusal.Illegal)) }
+        ensures gone { (number : ℕ) → IsNew self.old.slots number
+            → (calls : List Planned) (past : List HistoryEntry) → Stands self.old calls past
+            → IsNextCall calls past (at, call.Cancel number)
+            → Takes self.new calls past happening.Call
+            (bare
+            (answer.Cancel number
+            (effect_gone
+            ((after calls (workers_of self.old) (happenings past)).tasks number).phase))) }
+        ensures illegal { (number : ℕ)
+            → CallSteps self.old self.new (at, call.Illegal number)
+            (bare (answer.Refuse number refusal.Illegal)) }
     {
         self.moment = at;
     }
@@ -73,8 +89,10 @@ impl<A: Allocator> TaskTable<A> {
     #[inline(always)]
     fn cancel_held(&mut self, slot: u32) -> CancelEffect
         requires { (x : seats.Seat) × (slot_of self.old.slots slot ≡ Some x) }
-        ensures effect { (x : seats.Seat) → slot_of self.old.slots slot ≡ Some x → result ≡ effect_of x }
-        ensures slots { (x : seats.Seat) → slot_of self.old.slots slot ≡ Some x → self.new ≡ changes.cancel_in self.old slot x }
+        ensures effect { (x : seats.Seat) → slot_of self.old.slots slot ≡ Some x
+            → result ≡ effect_of x }
+        ensures slots { (x : seats.Seat) → slot_of self.old.slots slot ≡ Some x
+            → self.new ≡ changes.cancel_in self.old slot x }
         ensures formed { IsFormed self.old }
     {
         let seat = self.held(slot);
@@ -90,7 +108,8 @@ impl<A: Allocator> TaskTable<A> {
     fn cancel_seat(&mut self, slot: u32, seat: Seat)
         requires there { slot_of self.old.slots slot ≡ Some seat }
         requires live { effect_of seat ≡ effects.Yes }
-        ensures { self.new ≡ changes.put self.old slot (changes.cancelled self.old.policies.removes seat) }
+        ensures { self.new
+            ≡ changes.put self.old slot (changes.cancelled self.old.policies.removes seat) }
     {
         let removes = self.policies.removes;
         cancel_in(&mut self.slots, slot, removes);
@@ -106,7 +125,8 @@ impl<A: Allocator> TaskTable<A> {
 fn keep<A: Allocator>(kept: &mut SlotQueue<u64, A>, slot: u32, due: u64, rank: u64)
     requires known { slot < length kept.old.entries }
     requires absent { key_in kept.old.entries slot ≡ None }
-    ensures inserted { kept.new.entries ≡ slice_set kept.old.entries slot (Some (record { due = due; rank = rank })) }
+    ensures inserted { kept.new.entries
+        ≡ slice_set kept.old.entries slot (Some (record { due = due; rank = rank })) }
 {
     kept.insert(Entry { due, rank, slot });
 }
@@ -127,7 +147,8 @@ fn effect_on(seat: &Seat) -> CancelEffect
 /// Cancels the task in a slot, where cancelled tasks maybe leave the queue.
 fn cancel_in<A: Allocator>(slots: &mut Vec<Option<Seat>, A>, slot: u32, removes: bool)
     requires there { (x : seats.Seat) × (slot_of slots.old.items slot ≡ Some x) }
-    ensures { (x : seats.Seat) → slot_of slots.old.items slot ≡ Some x → slots.new.items ≡ slice_set slots.old.items slot (Some (changes.cancelled removes x)) }
+    ensures { (x : seats.Seat) → slot_of slots.old.items slot ≡ Some x
+        → slots.new.items ≡ slice_set slots.old.items slot (Some (changes.cancelled removes x)) }
 {
     if let Some(seat) = &mut slots[slot as usize] {
         seat.cancelled = true;

@@ -28,8 +28,11 @@ impl<A: Allocator> TaskTable<A> {
     #[inline(always)]
     pub fn drop_met(&mut self) -> Option<u32>
         ensures dropped { IfSome result (λ slot. Drops self.old self.new slot) }
-        ensures steps { IfSome result (λ _. (worker : ℕ) → IsFree self.old worker → (calls : List Planned) (past : List HistoryEntry)
-            → StandsBefore self.old calls past (happening.Start worker) → StandsBefore self.new calls past (happening.Start worker)) }
+        ensures steps { IfSome result
+            (λ _. (worker : ℕ) → IsFree self.old worker
+            → (calls : List Planned) (past : List HistoryEntry)
+            → StandsBefore self.old calls past (happening.Start worker)
+            → StandsBefore self.new calls past (happening.Start worker)) }
         ensures none { IfNone result ((self.new ≡ self.old) × NoneMet self.old) }
     {
         let entry = self.first_kept()?;
@@ -47,8 +50,11 @@ impl<A: Allocator> TaskTable<A> {
     /// Each call that drops one makes the number of kept tasks smaller, so that a loop of such calls ends.
     pub fn drop_kept(&mut self) -> Option<u32>
         ensures dropped { IfSome result (λ slot. Drops self.old self.new slot) }
-        ensures steps { IfSome result (λ _. (calls : List Planned) (past : List HistoryEntry) (p : Planned) → IsNextCall calls past p → sweeps_at self.old.shut p.1 ≡ true
-            → StandsBefore self.old calls past happening.Call → StandsBefore self.new calls past happening.Call) }
+        ensures steps { IfSome result
+            (λ _. (calls : List Planned) (past : List HistoryEntry) (p : Planned)
+            → IsNextCall calls past p → sweeps_at self.old.shut p.1 ≡ true
+            → StandsBefore self.old calls past happening.Call
+            → StandsBefore self.new calls past happening.Call) }
         ensures none { IfNone result ((self.new ≡ self.old) × NoneKept self.old) }
     {
         let entry = self.first_kept()?;
@@ -58,7 +64,8 @@ impl<A: Allocator> TaskTable<A> {
 
     /// The entry of the first kept task, and `None` where none is kept.
     fn first_kept(&self) -> Option<Entry<u64>>
-        ensures first { IfSome result (λ entry. HeadsKept self.now entry.slot entry.due entry.rank) }
+        ensures first { IfSome result
+            (λ entry. HeadsKept self.now entry.slot entry.due entry.rank) }
         ensures none { IfNone result (NoneKept self.now) }
         ensures formed { IsFormed self.now }
     {
@@ -80,7 +87,8 @@ impl<A: Allocator> TaskTable<A> {
     #[inline(never)]
     fn drop_at(&mut self, slot: u32)
         requires { (x : seats.Seat) × (slot_of self.old.slots slot ≡ Some x) × (x.kept ≡ true) }
-        ensures dropped { (x : seats.Seat) → slot_of self.old.slots slot ≡ Some x → self.new ≡ changes.put self.old slot (changes.unkept x) }
+        ensures dropped { (x : seats.Seat) → slot_of self.old.slots slot ≡ Some x
+            → self.new ≡ changes.put self.old slot (changes.unkept x) }
     {
         let seat = self.held(slot);
         self.kept.remove(slot);

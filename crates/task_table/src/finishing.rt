@@ -41,7 +41,9 @@ impl<A: Allocator> TaskTable<A> {
 
     /// The slot of the task that a worker runs, and what it holds.
     fn work_of(&self, worker: u8) -> Result<(u32, Seat), EventError>
-        ensures works { IfOk result (λ at. (worker < workers_of self.now) × (slice_index_or self.now.work worker None ≡ Some at.0)) }
+        ensures works { IfOk result
+            (λ at. (worker < workers_of self.now)
+            × (slice_index_or self.now.work worker None ≡ Some at.0)) }
         ensures there { IfOk result (λ at. slot_of self.now.slots at.0 ≡ Some at.1) }
         ensures runs { IfOk result (λ at. IsAtWork self.now.moment at.1) }
         ensures none { IfErr result (λ error. IsFinishError self.now worker error) }
@@ -105,7 +107,8 @@ impl<A: Allocator> TaskTable<A> {
         requires there { slot_of self.old.slots slot ≡ Some seat }
         requires runs { IsAtWork self.old.moment seat }
         requires due { due ≡ due_past seat.timing seat.due self.old.moment }
-        requires outcome { (stops : Bool) × (ending : endings.Ending) × (outcome ≡ replies.outcome_in seat.cancelled stops seat.timing due ending) }
+        requires outcome { (stops : Bool) × (ending : endings.Ending)
+            × (outcome ≡ replies.outcome_in seat.cancelled stops seat.timing due ending) }
         ensures { self.new ≡ changes.finished self.old worker slot seat outcome due }
     {
         let rank = seat.number;

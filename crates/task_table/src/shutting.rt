@@ -38,14 +38,27 @@ impl<A: Allocator> TaskTable<A> {
     )
         requires moment { self.old.moment ≤ at }
         requires limit { at ≤ longest }
-        requires kept { replies.setting_sweeps self.old.shut which value ≡ true → NoneKept self.old }
+        requires kept { replies.setting_sweeps self.old.shut which value ≡ true
+            → NoneKept self.old }
         requires room { length self.old.slots ≤ vec_capacity ends.old }
         ensures room { vec_capacity ends.new ≡ vec_capacity ends.old }
-        ensures none { replies.setting_sweeps self.old.shut which value ≡ false → ends.new.items ≡ [] }
-        ensures set { replies.setting_sweeps self.old.shut which value ≡ false → self.new ≡ record (changes.at_moment self.old at) { policies = settings.set_policy which value self.old.policies } }
-        ensures steps { replies.setting_sweeps self.old.shut which value ≡ false → CallSteps self.old self.new (at, call.SetPolicy which value) (replies.bare (answer.Policy which value)) }
-        ensures swept { replies.setting_sweeps self.old.shut which value ≡ true → SweepEnds (record (changes.at_moment self.old at) { policies = settings.set_policy which value self.old.policies }) self.new ends.new.items }
-        ensures sweeps { replies.setting_sweeps self.old.shut which value ≡ true → CallStepsBefore self.old self.new (at, call.SetPolicy which value) (record { answer = answer.Policy which value; ends = numbers_of ends.new.items }) }
+        ensures none { replies.setting_sweeps self.old.shut which value ≡ false
+            → ends.new.items ≡ [] }
+        ensures set { replies.setting_sweeps self.old.shut which value ≡ false
+            → self.new
+            ≡ record (changes.at_moment self.old at)
+            { policies = settings.set_policy which value self.old.policies } }
+        ensures steps { replies.setting_sweeps self.old.shut which value ≡ false
+            → CallSteps self.old self.new (at, call.SetPolicy which value)
+            (replies.bare (answer.Policy which value)) }
+        ensures swept { replies.setting_sweeps self.old.shut which value ≡ true
+            → SweepEnds
+            (record (changes.at_moment self.old at)
+            { policies = settings.set_policy which value self.old.policies }) self.new
+            ends.new.items }
+        ensures sweeps { replies.setting_sweeps self.old.shut which value ≡ true
+            → CallStepsBefore self.old self.new (at, call.SetPolicy which value)
+            (record { answer = answer.Policy which value; ends = numbers_of ends.new.items }) }
     {
         let sweeps = self.setting_sweeps(which, value);
         ends.clear();
@@ -71,9 +84,14 @@ impl<A: Allocator> TaskTable<A> {
         ensures first { result ≡ not self.old.shut }
         ensures none { self.old.shut ≡ true → ends.new.items ≡ [] }
         ensures again { self.old.shut ≡ true → self.new ≡ changes.at_moment self.old at }
-        ensures steps { self.old.shut ≡ true → CallSteps self.old self.new (at, call.Shutdown) (replies.bare answer.ShutdownAgain) }
-        ensures swept { self.old.shut ≡ false → SweepEnds (record (changes.at_moment self.old at) { shut = true }) self.new ends.new.items }
-        ensures sweeps { self.old.shut ≡ false → CallStepsBefore self.old self.new (at, call.Shutdown) (record { answer = answer.Shutdown; ends = numbers_of ends.new.items }) }
+        ensures steps { self.old.shut ≡ true
+            → CallSteps self.old self.new (at, call.Shutdown) (replies.bare answer.ShutdownAgain) }
+        ensures swept { self.old.shut ≡ false
+            → SweepEnds (record (changes.at_moment self.old at) { shut = true }) self.new
+            ends.new.items }
+        ensures sweeps { self.old.shut ≡ false
+            → CallStepsBefore self.old self.new (at, call.Shutdown)
+            (record { answer = answer.Shutdown; ends = numbers_of ends.new.items }) }
     {
         ends.clear();
         let again = self.is_shut();
@@ -96,8 +114,11 @@ impl<A: Allocator> TaskTable<A> {
         requires kept { NoneKept self.old }
         requires room { length self.old.slots ≤ vec_capacity ends.old }
         ensures room { vec_capacity ends.new ≡ vec_capacity ends.old }
-        ensures swept { SweepEnds (record (changes.at_moment self.old at) { shut = true; stopped = true }) self.new ends.new.items }
-        ensures sweeps { CallStepsBefore self.old self.new (at, call.ShutdownNow) (record { answer = answer.ShutdownNow; ends = numbers_of ends.new.items }) }
+        ensures swept { SweepEnds
+            (record (changes.at_moment self.old at) { shut = true; stopped = true }) self.new
+            ends.new.items }
+        ensures sweeps { CallStepsBefore self.old self.new (at, call.ShutdownNow)
+            (record { answer = answer.ShutdownNow; ends = numbers_of ends.new.items }) }
     {
         ends.clear();
         self.stop_at(at);
@@ -108,7 +129,9 @@ impl<A: Allocator> TaskTable<A> {
     fn set(&mut self, at: u64, which: Which, value: bool)
         requires moment { self.old.moment ≤ at }
         requires limit { at ≤ longest }
-        ensures { self.new ≡ record (changes.at_moment self.old at) { policies = settings.set_policy which value self.old.policies } }
+        ensures { self.new
+            ≡ record (changes.at_moment self.old at)
+            { policies = settings.set_policy which value self.old.policies } }
     {
         let policies = self.policies.with(which, value);
         self.moment = at;
@@ -129,7 +152,8 @@ impl<A: Allocator> TaskTable<A> {
     fn stop_at(&mut self, at: u64)
         requires moment { self.old.moment ≤ at }
         requires limit { at ≤ longest }
-        ensures { self.new ≡ record (changes.at_moment self.old at) { shut = true; stopped = true } }
+        ensures { self.new
+            ≡ record (changes.at_moment self.old at) { shut = true; stopped = true } }
     {
         self.moment = at;
         self.shut = true;

@@ -31,7 +31,8 @@ impl<A: Allocator> TaskTable<A> {
     pub fn clock(&mut self, moment: u64) -> Result<(), EventError>
         ensures accepted { IsOk result ↔ (is_accepted self.old.moment moment ≡ true) }
         ensures moved { IfOk result (λ _. self.new ≡ changes.at_moment self.old moment) }
-        ensures steps { IfOk result (λ _. EventSteps self.old self.new (happening.Clock moment) (bare answer.Clock)) }
+        ensures steps { IfOk result
+            (λ _. EventSteps self.old self.new (happening.Clock moment) (bare answer.Clock)) }
         ensures unchanged { OnErr result (self.new ≡ self.old) }
         ensures failed { IfErr result (λ error. FailsClock self.old moment error) }
     {
@@ -58,7 +59,8 @@ impl<A: Allocator> TaskTable<A> {
 
     /// The entry of the first task that waits and is due, and `None` where none is.
     pub(crate) fn first_due(&self) -> Option<Entry<u64>>
-        ensures first { IfSome result (λ entry. HeadsQueue self.now entry.slot entry.due entry.rank) }
+        ensures first { IfSome result
+            (λ entry. HeadsQueue self.now entry.slot entry.due entry.rank) }
         ensures none { IfNone result (NoneDue self.now) }
         ensures formed { IsFormed self.now }
     {

@@ -44,7 +44,8 @@ impl<A: Allocator> TaskTable<A> {
         requires within { slot < length self.old.slots }
         requires room { length ends.old.items < vec_capacity ends.old }
         ensures swept { self.new ≡ swept_in (slot_of self.old.slots slot) self.old slot }
-        ensures found { ends.new.items ≡ ends.old.items ++ ref_of (ends_task self.old) slot (slot_of self.old.slots slot) }
+        ensures found { ends.new.items
+            ≡ ends.old.items ++ ref_of (ends_task self.old) slot (slot_of self.old.slots slot) }
         ensures room { vec_capacity ends.new ≡ vec_capacity ends.old }
     {
         if let Some(seat) = self.seat(slot) {

@@ -147,7 +147,8 @@ impl<A: Allocator> TaskTable<A> {
         ensures grown { OnOk result (self.new ≡ grown self.old slots) }
         ensures refused { OnErr result (self.new ≡ self.old) }
         ensures roomy { slots ≤ length self.old.slots → IsOk result }
-        ensures stands { (calls : List Planned) (past : List HistoryEntry) → Stands self.old calls past → Stands self.new calls past }
+        ensures stands { (calls : List Planned) (past : List HistoryEntry)
+            → Stands self.old calls past → Stands self.new calls past }
     {
         let count = slots as usize;
         if count <= self.slots.len() {
@@ -180,7 +181,8 @@ impl<A: Allocator> TaskTable<A> {
         requires spans { (delay ≤ longest) × IsTimed timing }
         ensures due { result ≡ at + delay }
         ensures slots { self.new ≡ admitted self.old slot number at timing delay }
-        ensures steps { CallSteps self.old self.new (at, call.Submit number timing delay) (bare (answer.Submit number (kind_of timing) result)) }
+        ensures steps { CallSteps self.old self.new (at, call.Submit number timing delay)
+            (bare (answer.Submit number (kind_of timing) result)) }
     {
         let due = at + delay;
         let seat = Seat {
@@ -205,17 +207,23 @@ impl<A: Allocator> TaskTable<A> {
         requires moment { self.old.moment ≤ at }
         requires limit { at ≤ longest }
         ensures slots { self.new ≡ at_moment self.old at }
-        ensures steps { (number : ℕ) (timing : timings.Timing) (delay : ℕ) → CallSteps self.old self.new (at, call.Submit number timing delay) (bare (answer.Refuse number refusal.Rejected)) }
+        ensures steps { (number : ℕ) (timing : timings.Timing) (delay : ℕ)
+            → CallSteps self.old self.new (at, call.Submit number timing delay)
+            (bare (answer.Refuse number refusal.Rejected)) }
     {
         self.moment = at;
     }
 
     /// Empties a slot, of whose task nothing may come any more.
     pub fn release(&mut self, slot: u32)
-        requires { (x : Seat) × (slot_of self.old.slots slot ≡ Some x) × (is_alive (task_in x) ≡ false) }
+        requires { (x : Seat) × (slot_of self.old.slots slot ≡ Some x)
+            × (is_alive (task_in x) ≡ false) }
         ensures slots { self.new ≡ emptied self.old slot }
-        ensures stands { (calls : List Planned) (past : List HistoryEntry) → Stands self.old calls past → Stands self.new calls past }
-        ensures stands_before { (calls : List Planned) (past : List HistoryEntry) (y : happenings.Happening) → StandsBefore self.old calls past y → StandsBefore self.new calls past y }
+        ensures stands { (calls : List Planned) (past : List HistoryEntry)
+            → Stands self.old calls past → Stands self.new calls past }
+        ensures stands_before { (calls : List Planned) (past : List HistoryEntry)
+            (y : happenings.Happening) → StandsBefore self.old calls past y
+            → StandsBefore self.new calls past y }
     {
         self.slots[slot as usize] = None;
     }

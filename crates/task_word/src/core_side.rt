@@ -57,7 +57,8 @@ impl<A: Allocator> CoreSeat<A> {
         requires phase { (entry self.old.view k).phase ≡ Vacant }
         ensures table { self.new.table ≡ self.old.table }
         ensures view { self.new.view ≡ with_entry self.old.view k (new_in 0) }
-        ensures write { write.ChangesWord write.submit (entry self.old.view k) (entry self.new.view k) }
+        ensures write { write.ChangesWord write.submit (entry self.old.view k)
+            (entry self.new.view k) }
     {
         let next = self.known(words, k).submitted();
         words
@@ -77,9 +78,11 @@ impl<A: Allocator> CoreSeat<A> {
         requires phase { (entry self.old.view k).phase ≡ New }
         requires live { is_cancelled (entry self.old.view k) ≡ false }
         ensures table { self.new.table ≡ self.old.table }
-        ensures view { self.new.view ≡ after_move self.old.view k result (started (entry self.old.view k)) }
+        ensures view { self.new.view
+            ≡ after_move self.old.view k result (started (entry self.old.view k)) }
         ensures met { MoveMeets self.old.view k result }
-        ensures write { MoveWrites write.start (entry self.old.view k) result (entry self.new.view k) }
+        ensures write { MoveWrites write.start (entry self.old.view k) result
+            (entry self.new.view k) }
     {
         let next = self.known(words, k).started();
         self.advance(words, k, next)
@@ -92,9 +95,11 @@ impl<A: Allocator> CoreSeat<A> {
         requires phase { (entry self.old.view k).phase ≡ Running }
         requires live { is_cancelled (entry self.old.view k) ≡ false }
         ensures table { self.new.table ≡ self.old.table }
-        ensures view { self.new.view ≡ after_move self.old.view k result (ended_well (entry self.old.view k)) }
+        ensures view { self.new.view
+            ≡ after_move self.old.view k result (ended_well (entry self.old.view k)) }
         ensures met { MoveMeets self.old.view k result }
-        ensures write { MoveWrites write.done (entry self.old.view k) result (entry self.new.view k) }
+        ensures write { MoveWrites write.done (entry self.old.view k) result
+            (entry self.new.view k) }
     {
         let next = self.known(words, k).done();
         self.advance(words, k, next)
@@ -107,9 +112,11 @@ impl<A: Allocator> CoreSeat<A> {
         requires phase { (entry self.old.view k).phase ≡ Running }
         requires live { is_cancelled (entry self.old.view k) ≡ false }
         ensures table { self.new.table ≡ self.old.table }
-        ensures view { self.new.view ≡ after_move self.old.view k result (ended_badly (entry self.old.view k)) }
+        ensures view { self.new.view
+            ≡ after_move self.old.view k result (ended_badly (entry self.old.view k)) }
         ensures met { MoveMeets self.old.view k result }
-        ensures write { MoveWrites write.fail (entry self.old.view k) result (entry self.new.view k) }
+        ensures write { MoveWrites write.fail (entry self.old.view k) result
+            (entry self.new.view k) }
     {
         let next = self.known(words, k).failed();
         self.advance(words, k, next)
@@ -124,9 +131,11 @@ impl<A: Allocator> CoreSeat<A> {
         requires live { is_cancelled (entry self.old.view k) ≡ false }
         requires run { (entry self.old.view k).run + 1 < 2 ^ 32 }
         ensures table { self.new.table ≡ self.old.table }
-        ensures view { self.new.view ≡ after_move self.old.view k result (rearmed (entry self.old.view k)) }
+        ensures view { self.new.view
+            ≡ after_move self.old.view k result (rearmed (entry self.old.view k)) }
         ensures met { MoveMeets self.old.view k result }
-        ensures write { MoveWrites write.rearm (entry self.old.view k) result (entry self.new.view k) }
+        ensures write { MoveWrites write.rearm (entry self.old.view k) result
+            (entry self.new.view k) }
     {
         let next = self.known(words, k).rearmed();
         self.advance(words, k, next)
@@ -146,9 +155,11 @@ impl<A: Allocator> CoreSeat<A> {
         ensures met { CoreCancels self.old.view k result self.new.view }
         ensures own { self.new.view.own ≡ and_if (is_won result) k self.old.view.own }
         ensures view { self.new.view ≡ after_cancel self.old.view k result }
-        ensures live { is_live (entry self.old.view k).phase ≡ true → (result ≡ CoreCancel.Won) ⊎ (result ≡ CoreCancel.Late) }
+        ensures live { is_live (entry self.old.view k).phase ≡ true
+            → (result ≡ CoreCancel.Won) ⊎ (result ≡ CoreCancel.Late) }
         ensures late { is_cancelled (entry self.old.view k) ≡ true → result ≡ CoreCancel.Late }
-        ensures ended { is_ended_phase (entry self.old.view k).phase ≡ true → result ≡ CoreCancel.Over }
+        ensures ended { is_ended_phase (entry self.old.view k).phase ≡ true
+            → result ≡ CoreCancel.Over }
         ensures vacant { (entry self.old.view k).phase ≡ Vacant → result ≡ CoreCancel.Vacant }
     {
         let found = words
@@ -170,7 +181,8 @@ impl<A: Allocator> CoreSeat<A> {
         ensures met { MeetsEntry (entry self.old.view k) result }
         ensures tells { CoreTells self.old.view k result }
         ensures view { self.new.view ≡ with_entry self.old.view k result }
-        ensures phase { (result.phase ≡ (entry self.old.view k).phase) × (result.run ≡ (entry self.old.view k).run) }
+        ensures phase { (result.phase ≡ (entry self.old.view k).phase)
+            × (result.run ≡ (entry self.old.view k).run) }
         ensures cancelled { is_cancelled result ≡ true → result ≡ marked (entry self.old.view k) }
     {
         let found = words
@@ -196,8 +208,12 @@ impl<A: Allocator> CoreSeat<A> {
     /// that many are out.
     pub fn split(&mut self, words: &TaskWords<A>) -> Result<HandleSeat, WordError>
         requires table { self.old.table ≡ words.now.table }
-        ensures ok { IfOk result (λ h. (self.old.view.out < most_handles) × (self.new.view ≡ one_out self.old.view) × (h.table ≡ self.old.table) × (h.view ≡ new_handle words.now.tasks)) }
-        ensures err { IfErr result (λ e. (e ≡ Seats) × (self.old.view.out ≡ most_handles) × (self.new.view ≡ self.old.view)) }
+        ensures ok { IfOk result
+            (λ h. (self.old.view.out < most_handles) × (self.new.view ≡ one_out self.old.view)
+            × (h.table ≡ self.old.table) × (h.view ≡ new_handle words.now.tasks)) }
+        ensures err { IfErr result
+            (λ e. (e ≡ Seats) × (self.old.view.out ≡ most_handles)
+            × (self.new.view ≡ self.old.view)) }
         ensures table { self.new.table ≡ self.old.table }
         ensures most { self.new.view.out ≤ most_handles }
     {
@@ -244,7 +260,8 @@ impl<A: Allocator> CoreSeat<A> {
         ensures table { self.new.table ≡ self.old.table }
         ensures view { self.new.view ≡ after_move self.old.view k result next }
         ensures met { MoveMeets self.old.view k result }
-        ensures write { (kind : write.Kind) → write.ChangesWord kind (entry self.old.view k) next → MoveWrites kind (entry self.old.view k) result (entry self.new.view k) }
+        ensures write { (kind : write.Kind) → write.ChangesWord kind (entry self.old.view k) next
+            → MoveWrites kind (entry self.old.view k) result (entry self.new.view k) }
     {
         let word = self.known(words, k);
         let old = word.value();

@@ -70,7 +70,8 @@ impl HandleSeat {
         ensures table { self.new.table ≡ self.old.table }
         ensures past { words.now.tasks ≤ k → (result ≡ state.NoTask) × (self.new ≡ self.old) }
         ensures met { k < words.now.tasks → HandleLooks self.old.view k result self.new.view }
-        ensures won { k < words.now.tasks → 0 < times k self.old.view.won → result ≡ state.Cancelled }
+        ensures won { k < words.now.tasks → 0 < times k self.old.view.won
+            → result ≡ state.Cancelled }
     {
         if k >= words.tasks {
             return TaskState::NoTask;

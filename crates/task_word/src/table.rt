@@ -38,7 +38,8 @@ impl<A: Allocator + Copy> TaskWords<A> {
     ///
     /// The error is [`WordError::Memory`], where the allocator refused; then nothing is held.
     pub fn new(alloc: A, tasks: u32) -> Result<(TaskWords<A>, CoreSeat<A>), WordError>
-        ensures ok { IfOk result (λ r. (r.0.tasks ≡ tasks) × (r.1.table ≡ r.0.table) × (r.1.view ≡ new_core tasks)) }
+        ensures ok { IfOk result
+            (λ r. (r.0.tasks ≡ tasks) × (r.1.table ≡ r.0.table) × (r.1.view ≡ new_core tasks)) }
         ensures err { IfErr result (λ e. e ≡ Memory) }
     {
         let words = Vec::from_elem(alloc, 0u64, tasks as usize + 1)?;
@@ -62,7 +63,9 @@ impl<A: Allocator> TaskWords<A> {
     /// dropped.
     pub fn close<B: Allocator>(self, alloc: B, core: CoreSeat<A>) -> Result<Vec<u64, B>, WordError>
         requires table { core.table ≡ self.table }
-        ensures ok { IfOk result (λ v. (vec_len v ≡ self.tasks) × (vec_capacity v ≡ self.tasks) × Closes self.tasks core.view v.items) }
+        ensures ok { IfOk result
+            (λ v. (vec_len v ≡ self.tasks) × (vec_capacity v ≡ self.tasks)
+            × Closes self.tasks core.view v.items) }
         ensures err { IfErr result (λ e. e ≡ Memory) }
     {
         let mut words = Vec::with_capacity(alloc, self.tasks as usize)?;

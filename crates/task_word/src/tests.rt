@@ -125,7 +125,8 @@ fn cancel_live<A: Allocator>(words: &TaskWords<A>, core: &mut CoreSeat<A>, task:
     requires live { is_live (entry core.old.view task).phase ≡ true }
     ensures table { core.new.table ≡ core.old.table }
     ensures won { result ≡ true → core.new.view.own ≡ task ∷ core.old.view.own }
-    ensures late { result ≡ false → core.new.view ≡ with_entry core.old.view task (marked (entry core.old.view task)) }
+    ensures late { result ≡ false
+        → core.new.view ≡ with_entry core.old.view task (marked (entry core.old.view task)) }
 {
     match core.cancel(words, task) {
         CoreCancel::Won => true,
@@ -141,8 +142,10 @@ fn begin<A: Allocator>(words: &TaskWords<A>, core: &mut CoreSeat<A>, task: u32) 
     requires phase { (entry core.old.view task).phase ≡ New }
     requires live { is_cancelled (entry core.old.view task) ≡ false }
     ensures table { core.new.table ≡ core.old.table }
-    ensures yes { result ≡ true → core.new.view ≡ with_entry core.old.view task (started (entry core.old.view task)) }
-    ensures cancelled { result ≡ false → core.new.view ≡ with_entry core.old.view task (marked (entry core.old.view task)) }
+    ensures yes { result ≡ true
+        → core.new.view ≡ with_entry core.old.view task (started (entry core.old.view task)) }
+    ensures cancelled { result ≡ false
+        → core.new.view ≡ with_entry core.old.view task (marked (entry core.old.view task)) }
 {
     match core.start(words, task) {
         Moved::Yes => true,

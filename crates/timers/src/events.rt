@@ -28,9 +28,11 @@ impl<A: Allocator> Timers<A> {
     #[inline(always)]
     pub fn poll(&mut self, now: u64, worker: u8) -> Result<Option<Run>, PollError>
         ensures polls { IfOk result (λ run. Polls self.old.live self.new.live now worker run) }
-        ensures given { IfOk result (λ run. IfSome run (λ r. WasGivenWith self.old r.task.number r.user_data)) }
+        ensures given { IfOk result
+            (λ run. IfSome run (λ r. WasGivenWith self.old r.task.number r.user_data)) }
         ensures keeps { GivesNone self.old self.new }
-        ensures failed { IfErr result (λ error. IsPollError self.old.live self.new.live now worker error) }
+        ensures failed { IfErr result
+            (λ error. IsPollError self.old.live self.new.live now worker error) }
         ensures user_data { self.new.user_data ≡ self.old.user_data }
     {
         match begin(&mut self.executor, now, worker)? {
@@ -53,7 +55,8 @@ impl<A: Allocator> Timers<A> {
     /// [`FinishError::TooFar`] where the moment is above 2^62: nothing has changed then.
     #[inline(always)]
     pub fn finish(&mut self, now: u64, worker: u8, ending: Ending) -> Result<Finished, FinishError>
-        ensures finishes { IfOk result (λ f. Finishes self.old.live self.new.live now worker ending f) }
+        ensures finishes { IfOk result
+            (λ f. Finishes self.old.live self.new.live now worker ending f) }
         ensures given { IfOk result (λ f. WasGivenWith self.old f.task.number f.user_data) }
         ensures keeps { GivesNone self.old self.new }
         ensures refused { OnErr result (self.new ≡ self.old) }
@@ -81,9 +84,11 @@ impl<A: Allocator> Timers<A> {
     pub fn cancel(&mut self, task: TaskRef) -> Result<CancelEffect, CallError>
         ensures stays { OnOk result (StaysQuiet self.old.live self.new.live self.old.live.count) }
         ensures keeps { GivesNone self.old self.new }
-        ensures done { IfOk result (λ effect. CancelsOutside self.old.live self.new.live task.number effect) }
+        ensures done { IfOk result
+            (λ effect. CancelsOutside self.old.live self.new.live task.number effect) }
         ensures refused { OnErr result (self.new ≡ self.old) }
-        ensures failed { IfErr result (λ error. (error ≡ call_error.NoTask) × (self.old.live.count ≤ task.number)) }
+        ensures failed { IfErr result
+            (λ error. (error ≡ call_error.NoTask) × (self.old.live.count ≤ task.number)) }
         ensures user_data { self.new.user_data ≡ self.old.user_data }
     {
         if task.number >= self.executor.numbers() {

@@ -19,7 +19,8 @@ pub(crate) fn make_room<A: Allocator>(
     requires size { length user_data.old.items ≡ length executor.old.table.slots }
     requires unshut { executor.old.table.shut ≡ false }
     ensures size { length user_data.new.items ≡ length executor.new.table.slots }
-    ensures made { MakesRoom (seen executor.old user_data.old.items) (seen executor.new user_data.new.items) }
+    ensures made { MakesRoom (seen executor.old user_data.old.items)
+        (seen executor.new user_data.new.items) }
     ensures room { OnOk result (AreTaken executor.new.table.slots → ⊥) }
     ensures full { OnErr result (AreTaken executor.old.table.slots) }
     ensures executor { OnErr result (executor.new ≡ executor.old) }
@@ -44,7 +45,9 @@ pub(crate) fn grow<A: Allocator>(
     requires size { length user_data.old.items ≡ length executor.old.table.slots }
     requires more { length executor.old.table.slots < slots }
     ensures size { length user_data.new.items ≡ length executor.new.table.slots }
-    ensures grown { OnOk result (Grows (seen executor.old user_data.old.items) (seen executor.new user_data.new.items) slots) }
+    ensures grown { OnOk result
+        (Grows (seen executor.old user_data.old.items) (seen executor.new user_data.new.items)
+        slots) }
     ensures executor { OnErr result (executor.new ≡ executor.old) }
     ensures user_data { OnErr result (user_data.new.items ≡ user_data.old.items) }
 {

@@ -17,8 +17,10 @@ pub(crate) fn begin<A: Allocator>(
     now: u64,
     worker: u8,
 ) -> Result<Option<Begun>, PollError>
-    ensures polls { IfOk result (λ begun. Polls executor.old executor.new now worker (run_of begun 0)) }
-    ensures failed { IfErr result (λ error. IsPollError executor.old executor.new now worker error) }
+    ensures polls { IfOk result
+        (λ begun. Polls executor.old executor.new now worker (run_of begun 0)) }
+    ensures failed { IfErr result
+        (λ error. IsPollError executor.old executor.new now worker error) }
 {
     match executor.start_error(worker) {
         None => {}
@@ -43,7 +45,8 @@ pub(crate) fn end<A: Allocator>(
     worker: u8,
     ending: Ending,
 ) -> Result<Ended, FinishError>
-    ensures finishes { IfOk result (λ ended. Finishes executor.old executor.new now worker ending (finished_of ended 0)) }
+    ensures finishes { IfOk result
+        (λ ended. Finishes executor.old executor.new now worker ending (finished_of ended 0)) }
     ensures refused { OnErr result (executor.new ≡ executor.old) }
     ensures failed { IfErr result (λ error. IsFinishError executor.old now worker error) }
 {

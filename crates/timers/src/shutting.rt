@@ -28,7 +28,8 @@ impl<A: Allocator> Timers<A> {
     pub fn set_policy(&mut self, now: u64, which: Which, value: bool) -> Result<(), CallError>
         ensures made { OnOk result (Sets self.old.live self.new.live now which value) }
         ensures keeps { GivesNone self.old self.new }
-        ensures gone { OnOk result (AreGone self.old.live.table self.new.live.table self.new.live.ended) }
+        ensures gone { OnOk result
+            (AreGone self.old.live.table self.new.live.table self.new.live.ended) }
         ensures stays { OnOk result (Stays self.old.live self.new.live self.old.live.count) }
         ensures near { OnOk result (moment_of_call self.old.live now ≤ longest) }
         ensures refused { OnErr result (self.new ≡ self.old) }
@@ -47,7 +48,8 @@ impl<A: Allocator> Timers<A> {
     pub fn shut_down(&mut self, now: u64) -> Result<bool, CallError>
         ensures made { IfOk result (λ first. ShutsDown self.old.live self.new.live now first) }
         ensures keeps { GivesNone self.old self.new }
-        ensures gone { OnOk result (AreGone self.old.live.table self.new.live.table self.new.live.ended) }
+        ensures gone { OnOk result
+            (AreGone self.old.live.table self.new.live.table self.new.live.ended) }
         ensures stays { OnOk result (Stays self.old.live self.new.live self.old.live.count) }
         ensures near { OnOk result (moment_of_call self.old.live now ≤ longest) }
         ensures refused { OnErr result (self.new ≡ self.old) }
@@ -65,7 +67,8 @@ impl<A: Allocator> Timers<A> {
     pub fn shut_down_now(&mut self, now: u64) -> Result<(), CallError>
         ensures made { OnOk result (StopsAtOnce self.old.live self.new.live now) }
         ensures keeps { GivesNone self.old self.new }
-        ensures gone { OnOk result (AreGone self.old.live.table self.new.live.table self.new.live.ended) }
+        ensures gone { OnOk result
+            (AreGone self.old.live.table self.new.live.table self.new.live.ended) }
         ensures stays { OnOk result (Stays self.old.live self.new.live self.old.live.count) }
         ensures near { OnOk result (moment_of_call self.old.live now ≤ longest) }
         ensures refused { OnErr result (self.new ≡ self.old) }
@@ -97,8 +100,10 @@ impl<A: Allocator> Timers<A> {
     ///
     /// [`CallError::Memory`] where memory is refused: nothing has changed then.
     pub fn reserve(&mut self, tasks: u32) -> Result<(), CallError>
-        ensures made { OnOk result (self.new.live ≡ record self.old.live { table = grown self.old.live.table tasks }) }
-        ensures stands { (calls : List Planned) (past : List HistoryEntry) → Stands self.old.live calls past → Stands self.new.live calls past }
+        ensures made { OnOk result
+            (self.new.live ≡ record self.old.live { table = grown self.old.live.table tasks }) }
+        ensures stands { (calls : List Planned) (past : List HistoryEntry)
+            → Stands self.old.live calls past → Stands self.new.live calls past }
         ensures keeps { GivesNone self.old self.new }
         ensures roomy { tasks ≤ length self.old.live.table.slots → IsOk result }
         ensures refused { OnErr result (self.new ≡ self.old) }

@@ -25,11 +25,14 @@ impl<A: Allocator> Timers<A> {
     /// for more is refused, or there are 2^30: nothing has changed then.
     #[inline(always)]
     pub fn schedule(&mut self, now: u64, delay: u64, user_data: u64) -> Result<Submitted, CallError>
-        ensures made { IfOk result (λ s. Submits self.old.live self.new.live now timings.Once delay s) }
+        ensures made { IfOk result
+            (λ s. Submits self.old.live self.new.live now timings.Once delay s) }
         ensures gives { OnOk result (Gives self.old self.new user_data) }
-        ensures stays { OnOk result (StaysQuiet self.old.live self.new.live (self.old.live.count + 1)) }
+        ensures stays { OnOk result
+            (StaysQuiet self.old.live self.new.live (self.old.live.count + 1)) }
         ensures refused { OnErr result (self.new ≡ self.old) }
-        ensures failed { IfErr result (λ error. IsSubmitError self.old.live now timings.Once delay error) }
+        ensures failed { IfErr result
+            (λ error. IsSubmitError self.old.live now timings.Once delay error) }
     {
         submit(
             &mut self.executor,
@@ -45,9 +48,11 @@ impl<A: Allocator> Timers<A> {
     pub fn execute(&mut self, now: u64, user_data: u64) -> Result<Submitted, CallError>
         ensures made { IfOk result (λ s. Submits self.old.live self.new.live now timings.Once 0 s) }
         ensures gives { OnOk result (Gives self.old self.new user_data) }
-        ensures stays { OnOk result (StaysQuiet self.old.live self.new.live (self.old.live.count + 1)) }
+        ensures stays { OnOk result
+            (StaysQuiet self.old.live self.new.live (self.old.live.count + 1)) }
         ensures refused { OnErr result (self.new ≡ self.old) }
-        ensures failed { IfErr result (λ error. IsSubmitError self.old.live now timings.Once 0 error) }
+        ensures failed { IfErr result
+            (λ error. IsSubmitError self.old.live now timings.Once 0 error) }
     {
         self.schedule(now, 0, user_data)
     }
@@ -65,12 +70,15 @@ impl<A: Allocator> Timers<A> {
         period: u64,
         user_data: u64,
     ) -> Result<Submitted, CallError>
-        ensures made { IfOk result (λ s. Submits self.old.live self.new.live now (timings.Rate period) first s) }
+        ensures made { IfOk result
+            (λ s. Submits self.old.live self.new.live now (timings.Rate period) first s) }
         ensures gives { OnOk result (Gives self.old self.new user_data) }
-        ensures stays { OnOk result (StaysQuiet self.old.live self.new.live (self.old.live.count + 1)) }
+        ensures stays { OnOk result
+            (StaysQuiet self.old.live self.new.live (self.old.live.count + 1)) }
         ensures refused { OnErr result (self.new ≡ self.old) }
         ensures legal { OnOk result (0 < period) }
-        ensures failed { IfErr result (λ error. IsPeriodicError period self.old.live now (timings.Rate period) first error) }
+        ensures failed { IfErr result
+            (λ error. IsPeriodicError period self.old.live now (timings.Rate period) first error) }
     {
         if period == 0 {
             return Err(CallError::Illegal);
@@ -102,12 +110,15 @@ impl<A: Allocator> Timers<A> {
         delay: u64,
         user_data: u64,
     ) -> Result<Submitted, CallError>
-        ensures made { IfOk result (λ s. Submits self.old.live self.new.live now (timings.Fixed delay) first s) }
+        ensures made { IfOk result
+            (λ s. Submits self.old.live self.new.live now (timings.Fixed delay) first s) }
         ensures gives { OnOk result (Gives self.old self.new user_data) }
-        ensures stays { OnOk result (StaysQuiet self.old.live self.new.live (self.old.live.count + 1)) }
+        ensures stays { OnOk result
+            (StaysQuiet self.old.live self.new.live (self.old.live.count + 1)) }
         ensures refused { OnErr result (self.new ≡ self.old) }
         ensures legal { OnOk result (0 < delay) }
-        ensures failed { IfErr result (λ error. IsPeriodicError delay self.old.live now (timings.Fixed delay) first error) }
+        ensures failed { IfErr result
+            (λ error. IsPeriodicError delay self.old.live now (timings.Fixed delay) first error) }
     {
         if delay == 0 {
             return Err(CallError::Illegal);

@@ -34,7 +34,9 @@ pub(crate) fn submit<A: Allocator>(
     requires legal { IsLegal timing }
     ensures size { length user_data.new.items ≡ length executor.new.table.slots }
     ensures made { IfOk result (λ s. Submits executor.old executor.new at timing delay s) }
-    ensures gives { OnOk result (Gives (seen executor.old user_data.old.items) (seen executor.new user_data.new.items) value) }
+    ensures gives { OnOk result
+        (Gives (seen executor.old user_data.old.items) (seen executor.new user_data.new.items)
+        value) }
     ensures stays { OnOk result (StaysQuiet executor.old executor.new (executor.old.count + 1)) }
     ensures executor { OnErr result (executor.new ≡ executor.old) }
     ensures user_data { OnErr result (user_data.new.items ≡ user_data.old.items) }
@@ -56,10 +58,14 @@ fn make_place<A: Allocator>(
 ) -> Result<(), CallError>
     requires size { length user_data.old.items ≡ length executor.old.table.slots }
     ensures size { length user_data.new.items ≡ length executor.new.table.slots }
-    ensures place { OnOk result (HasRoomFor (seen executor.old user_data.old.items) (seen executor.new user_data.new.items) at delay) }
+    ensures place { OnOk result
+        (HasRoomFor (seen executor.old user_data.old.items)
+        (seen executor.new user_data.new.items) at delay) }
     ensures executor { OnErr result (executor.new ≡ executor.old) }
     ensures user_data { OnErr result (user_data.new.items ≡ user_data.old.items) }
-    ensures failed { IfErr result (λ error. (timing : timings.Timing) → IsTimed timing → IsSubmitError executor.old at timing delay error) }
+    ensures failed { IfErr result
+        (λ error. (timing : timings.Timing) → IsTimed timing
+        → IsSubmitError executor.old at timing delay error) }
 {
     if !executor.is_full() {
         return Ok(());
@@ -78,11 +84,14 @@ fn prepare<A: Allocator>(
 ) -> Result<(), CallError>
     requires size { length user_data.old.items ≡ length executor.old.table.slots }
     ensures size { length user_data.new.items ≡ length executor.new.table.slots }
-    ensures made { MakesRoom (seen executor.old user_data.old.items) (seen executor.new user_data.new.items) }
+    ensures made { MakesRoom (seen executor.old user_data.old.items)
+        (seen executor.new user_data.new.items) }
     ensures ready { OnOk result (IsReady executor.new at delay) }
     ensures executor { OnErr result (executor.new ≡ executor.old) }
     ensures user_data { OnErr result (user_data.new.items ≡ user_data.old.items) }
-    ensures failed { IfErr result (λ error. (timing : timings.Timing) → IsTimed timing → IsSubmitError executor.old at timing delay error) }
+    ensures failed { IfErr result
+        (λ error. (timing : timings.Timing) → IsTimed timing
+        → IsSubmitError executor.old at timing delay error) }
 {
     if delay > LONGEST {
         return Err(CallError::TooLong);

@@ -19,7 +19,9 @@ use std::alloc::Global;
 /// Makes timers in an empty slot, before anything happened, for 1 to 64 workers.
 #[unsafe(no_mangle)]
 pub extern "C" fn timers_ref_new(alloc: Global, slot: &mut Slot, workers: u32) -> u32
-    ensures { Answers result (λ status. Makes status workers (holding slot.old.full slot.old.held.value) (holding slot.new.full slot.new.held.value)) }
+    ensures { Answers result
+        (λ status. Makes status workers (holding slot.old.full slot.old.held.value)
+        (holding slot.new.full slot.new.held.value)) }
 {
     life::new(alloc, slot, workers).number()
 }
@@ -27,7 +29,9 @@ pub extern "C" fn timers_ref_new(alloc: Global, slot: &mut Slot, workers: u32) -
 /// Frees the timers of a slot, which is empty then.
 #[unsafe(no_mangle)]
 pub extern "C" fn timers_ref_free(alloc: Global, slot: &mut Slot) -> u32
-    ensures { Answers result (λ status. Frees status (holding slot.old.full slot.old.held.value) (holding slot.new.full slot.new.held.value)) }
+    ensures { Answers result
+        (λ status. Frees status (holding slot.old.full slot.old.held.value)
+        (holding slot.new.full slot.new.held.value)) }
 {
     life::free(alloc, slot).number()
 }
@@ -35,7 +39,9 @@ pub extern "C" fn timers_ref_free(alloc: Global, slot: &mut Slot) -> u32
 /// Makes at least so many slots. It is no call, and has no line.
 #[unsafe(no_mangle)]
 pub extern "C" fn timers_ref_reserve(alloc: Global, slot: &mut Slot, tasks: u32) -> u32
-    ensures { Answers result (λ status. Reserves status tasks (holding slot.old.full slot.old.held.value) (holding slot.new.full slot.new.held.value)) }
+    ensures { Answers result
+        (λ status. Reserves status tasks (holding slot.old.full slot.old.held.value)
+        (holding slot.new.full slot.new.held.value)) }
 {
     life::reserve(alloc, slot, tasks).number()
 }
@@ -50,7 +56,9 @@ pub extern "C" fn timers_ref_schedule(
     user_data: u64,
     task: &mut Ref,
 ) -> u32
-    ensures { Answers result (λ status. TakesSubmission status now timings.Once delay user_data task.new (holding slot.old.full slot.old.held.value) (holding slot.new.full slot.new.held.value)) }
+    ensures { Answers result
+        (λ status. TakesSubmission status now timings.Once delay user_data task.new
+        (holding slot.old.full slot.old.held.value) (holding slot.new.full slot.new.held.value)) }
 {
     let submission = Submission::Once { delay };
     submitting::submit(alloc, slot, now, submission, user_data, task).number()
@@ -65,7 +73,9 @@ pub extern "C" fn timers_ref_execute(
     user_data: u64,
     task: &mut Ref,
 ) -> u32
-    ensures { Answers result (λ status. TakesSubmission status now timings.Once 0 user_data task.new (holding slot.old.full slot.old.held.value) (holding slot.new.full slot.new.held.value)) }
+    ensures { Answers result
+        (λ status. TakesSubmission status now timings.Once 0 user_data task.new
+        (holding slot.old.full slot.old.held.value) (holding slot.new.full slot.new.held.value)) }
 {
     let submission = Submission::Once { delay: 0 };
     submitting::submit(alloc, slot, now, submission, user_data, task).number()
@@ -82,7 +92,9 @@ pub extern "C" fn timers_ref_rate(
     user_data: u64,
     task: &mut Ref,
 ) -> u32
-    ensures { Answers result (λ status. TakesSubmission status now (timings.Rate period) first user_data task.new (holding slot.old.full slot.old.held.value) (holding slot.new.full slot.new.held.value)) }
+    ensures { Answers result
+        (λ status. TakesSubmission status now (timings.Rate period) first user_data task.new
+        (holding slot.old.full slot.old.held.value) (holding slot.new.full slot.new.held.value)) }
 {
     let submission = Submission::Rate { first, period };
     submitting::submit(alloc, slot, now, submission, user_data, task).number()
@@ -100,7 +112,9 @@ pub extern "C" fn timers_ref_fixed(
     user_data: u64,
     task: &mut Ref,
 ) -> u32
-    ensures { Answers result (λ status. TakesSubmission status now (timings.Fixed delay) first user_data task.new (holding slot.old.full slot.old.held.value) (holding slot.new.full slot.new.held.value)) }
+    ensures { Answers result
+        (λ status. TakesSubmission status now (timings.Fixed delay) first user_data task.new
+        (holding slot.old.full slot.old.held.value) (holding slot.new.full slot.new.held.value)) }
 {
     let submission = Submission::Fixed { first, delay };
     submitting::submit(alloc, slot, now, submission, user_data, task).number()
@@ -114,7 +128,9 @@ pub extern "C" fn timers_ref_cancel(
     task: &Ref,
     effect: &mut u32,
 ) -> u32
-    ensures { Answers result (λ status. TakesCancel status task.now effect.new (holding slot.old.full slot.old.held.value) (holding slot.new.full slot.new.held.value)) }
+    ensures { Answers result
+        (λ status. TakesCancel status task.now effect.new
+        (holding slot.old.full slot.old.held.value) (holding slot.new.full slot.new.held.value)) }
 {
     submitting::cancel(alloc, slot, *task, effect).number()
 }
@@ -128,7 +144,9 @@ pub extern "C" fn timers_ref_poll(
     worker: u32,
     run: &mut Run,
 ) -> u32
-    ensures { Answers result (λ status. TakesPoll status now worker run.new (holding slot.old.full slot.old.held.value) (holding slot.new.full slot.new.held.value)) }
+    ensures { Answers result
+        (λ status. TakesPoll status now worker run.new (holding slot.old.full slot.old.held.value)
+        (holding slot.new.full slot.new.held.value)) }
 {
     running::poll(alloc, slot, now, worker, run).number()
 }
@@ -142,7 +160,9 @@ pub extern "C" fn timers_ref_poll_many(
     runs: &mut [Run],
     begun: &mut usize,
 ) -> u32
-    ensures { Answers result (λ status. PollsMany status now runs.old runs.new begun.new (holding slot.old.full slot.old.held.value) (holding slot.new.full slot.new.held.value)) }
+    ensures { Answers result
+        (λ status. PollsMany status now runs.old runs.new begun.new
+        (holding slot.old.full slot.old.held.value) (holding slot.new.full slot.new.held.value)) }
 {
     many::poll_many(alloc, slot, now, runs, begun).number()
 }
@@ -157,7 +177,9 @@ pub extern "C" fn timers_ref_finish(
     value: u64,
     end: &mut End,
 ) -> u32
-    ensures { Answers result (λ status. TakesFinish status now worker (endings.Value value) end.new (holding slot.old.full slot.old.held.value) (holding slot.new.full slot.new.held.value)) }
+    ensures { Answers result
+        (λ status. TakesFinish status now worker (endings.Value value) end.new
+        (holding slot.old.full slot.old.held.value) (holding slot.new.full slot.new.held.value)) }
 {
     let ending = HowItEnded::Value(value);
     running::finish(alloc, slot, now, worker, ending, end).number()
@@ -173,7 +195,9 @@ pub extern "C" fn timers_ref_fail(
     code: u32,
     end: &mut End,
 ) -> u32
-    ensures { Answers result (λ status. TakesFinish status now worker (endings.Fault code) end.new (holding slot.old.full slot.old.held.value) (holding slot.new.full slot.new.held.value)) }
+    ensures { Answers result
+        (λ status. TakesFinish status now worker (endings.Fault code) end.new
+        (holding slot.old.full slot.old.held.value) (holding slot.new.full slot.new.held.value)) }
 {
     let ending = HowItEnded::Fault(code);
     running::finish(alloc, slot, now, worker, ending, end).number()
@@ -190,7 +214,10 @@ pub extern "C" fn timers_ref_finish_many(
     ends: &mut [End],
     ended: &mut usize,
 ) -> u32
-    ensures { Answers result (λ status. FinishesMany status now (take (length ends.old) endings.now) ends.old ends.new ended.new (holding slot.old.full slot.old.held.value) (holding slot.new.full slot.new.held.value)) }
+    ensures { Answers result
+        (λ status. FinishesMany status now (take (length ends.old) endings.now) ends.old ends.new
+        ended.new (holding slot.old.full slot.old.held.value)
+        (holding slot.new.full slot.new.held.value)) }
 {
     many::finish_many(alloc, slot, now, endings, ends, ended).number()
 }
@@ -198,7 +225,9 @@ pub extern "C" fn timers_ref_finish_many(
 /// The moment at which the first task that waits is due.
 #[unsafe(no_mangle)]
 pub extern "C" fn timers_ref_next_due(alloc: Global, slot: &mut Slot, due: &mut u64) -> u32
-    ensures { Answers result (λ status. ReadsDue status due.new (holding slot.old.full slot.old.held.value) (holding slot.new.full slot.new.held.value)) }
+    ensures { Answers result
+        (λ status. ReadsDue status due.new (holding slot.old.full slot.old.held.value)
+        (holding slot.new.full slot.new.held.value)) }
 {
     reading::read_due(alloc, slot, due).number()
 }
@@ -211,7 +240,9 @@ pub extern "C" fn timers_ref_task_of(
     task: &Ref,
     state: &mut TaskState,
 ) -> u32
-    ensures { Answers result (λ status. ReadsTask status task.now state.new (holding slot.old.full slot.old.held.value) (holding slot.new.full slot.new.held.value)) }
+    ensures { Answers result
+        (λ status. ReadsTask status task.now state.new (holding slot.old.full slot.old.held.value)
+        (holding slot.new.full slot.new.held.value)) }
 {
     reading::read_task(alloc, slot, *task, state).number()
 }
@@ -219,7 +250,9 @@ pub extern "C" fn timers_ref_task_of(
 /// How far the timers are. It is no call, and has no line.
 #[unsafe(no_mangle)]
 pub extern "C" fn timers_ref_state_of(alloc: Global, slot: &mut Slot, state: &mut State) -> u32
-    ensures { Answers result (λ status. Reads status state.new (holding slot.old.full slot.old.held.value) (holding slot.new.full slot.new.held.value)) }
+    ensures { Answers result
+        (λ status. Reads status state.new (holding slot.old.full slot.old.held.value)
+        (holding slot.new.full slot.new.held.value)) }
 {
     reading::read(alloc, slot, state).number()
 }
@@ -232,7 +265,9 @@ pub extern "C" fn timers_ref_ask(
     now: u64,
     counts: &mut Counts,
 ) -> u32
-    ensures { Answers result (λ status. TakesAsk status now counts.new (holding slot.old.full slot.old.held.value) (holding slot.new.full slot.new.held.value)) }
+    ensures { Answers result
+        (λ status. TakesAsk status now counts.new (holding slot.old.full slot.old.held.value)
+        (holding slot.new.full slot.new.held.value)) }
 {
     shutting::ask(alloc, slot, now, counts).number()
 }
@@ -246,7 +281,9 @@ pub extern "C" fn timers_ref_set_policy(
     policy: u32,
     value: bool,
 ) -> u32
-    ensures { Answers result (λ status. TakesPolicy status now policy value (holding slot.old.full slot.old.held.value) (holding slot.new.full slot.new.held.value)) }
+    ensures { Answers result
+        (λ status. TakesPolicy status now policy value (holding slot.old.full slot.old.held.value)
+        (holding slot.new.full slot.new.held.value)) }
 {
     shutting::set_policy(alloc, slot, now, policy, value).number()
 }
@@ -259,7 +296,9 @@ pub extern "C" fn timers_ref_shutdown(
     now: u64,
     first: &mut u32,
 ) -> u32
-    ensures { Answers result (λ status. TakesShutdown status now first.new (holding slot.old.full slot.old.held.value) (holding slot.new.full slot.new.held.value)) }
+    ensures { Answers result
+        (λ status. TakesShutdown status now first.new (holding slot.old.full slot.old.held.value)
+        (holding slot.new.full slot.new.held.value)) }
 {
     shutting::shut_down(alloc, slot, now, first).number()
 }
@@ -267,7 +306,9 @@ pub extern "C" fn timers_ref_shutdown(
 /// Shuts the timers down at once.
 #[unsafe(no_mangle)]
 pub extern "C" fn timers_ref_shutdown_now(alloc: Global, slot: &mut Slot, now: u64) -> u32
-    ensures { Answers result (λ status. TakesShutdownNow status now (holding slot.old.full slot.old.held.value) (holding slot.new.full slot.new.held.value)) }
+    ensures { Answers result
+        (λ status. TakesShutdownNow status now (holding slot.old.full slot.old.held.value)
+        (holding slot.new.full slot.new.held.value)) }
 {
     shutting::shut_down_now(alloc, slot, now).number()
 }
@@ -280,7 +321,9 @@ pub extern "C" fn timers_ref_ended(
     place: usize,
     gone: &mut Gone,
 ) -> u32
-    ensures { Answers result (λ status. ReadsEnded status place gone.new (holding slot.old.full slot.old.held.value) (holding slot.new.full slot.new.held.value)) }
+    ensures { Answers result
+        (λ status. ReadsEnded status place gone.new (holding slot.old.full slot.old.held.value)
+        (holding slot.new.full slot.new.held.value)) }
 {
     reading::read_ended(alloc, slot, place, gone).number()
 }
@@ -295,7 +338,9 @@ pub extern "C" fn timers_ref_text(
     out: &mut [u8],
     copied: &mut Copied,
 ) -> u32
-    ensures { Answers result (λ status. Copies status from out.old out.new copied.new (holding slot.old.full slot.old.held.value) (holding slot.new.full slot.new.held.value)) }
+    ensures { Answers result
+        (λ status. Copies status from out.old out.new copied.new
+        (holding slot.old.full slot.old.held.value) (holding slot.new.full slot.new.held.value)) }
 {
     text::text(alloc, slot, from, out, copied).number()
 }

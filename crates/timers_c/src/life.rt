@@ -10,7 +10,8 @@ use std::alloc::Global;
 
 /// Makes timers in an empty slot.
 pub fn new(alloc: Global, slot: &mut Slot, workers: u32) -> Status
-    ensures { Makes result workers (holding slot.old.full slot.old.held.value) (holding slot.new.full slot.new.held.value) }
+    ensures { Makes result workers (holding slot.old.full slot.old.held.value)
+        (holding slot.new.full slot.new.held.value) }
 {
     if slot.full {
         return Status::HasTimers;
@@ -29,7 +30,8 @@ pub fn new(alloc: Global, slot: &mut Slot, workers: u32) -> Status
 
 /// Frees the timers of a slot.
 pub fn free(alloc: Global, slot: &mut Slot) -> Status
-    ensures { Frees result (holding slot.old.full slot.old.held.value) (holding slot.new.full slot.new.held.value) }
+    ensures { Frees result (holding slot.old.full slot.old.held.value)
+        (holding slot.new.full slot.new.held.value) }
 {
     let Some(session) = slot.take(alloc) else {
         return Status::NoTimers;
@@ -40,7 +42,8 @@ pub fn free(alloc: Global, slot: &mut Slot) -> Status
 
 /// Makes at least so many slots.
 pub fn reserve(alloc: Global, slot: &mut Slot, tasks: u32) -> Status
-    ensures { Reserves result tasks (holding slot.old.full slot.old.held.value) (holding slot.new.full slot.new.held.value) }
+    ensures { Reserves result tasks (holding slot.old.full slot.old.held.value)
+        (holding slot.new.full slot.new.held.value) }
 {
     let Some(mut session) = slot.take(alloc) else {
         return Status::NoTimers;

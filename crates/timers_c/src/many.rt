@@ -19,7 +19,8 @@ pub fn poll_many(
     runs: &mut [Run],
     begun: &mut usize,
 ) -> Status
-    ensures { PollsMany result now runs.old runs.new begun.new (holding slot.old.full slot.old.held.value) (holding slot.new.full slot.new.held.value) }
+    ensures { PollsMany result now runs.old runs.new begun.new
+        (holding slot.old.full slot.old.held.value) (holding slot.new.full slot.new.held.value) }
 {
     *begun = 0;
     let Some(mut session) = slot.take(alloc) else {
@@ -33,7 +34,8 @@ pub fn poll_many(
 
 /// Polls for the worker of each run in turn, until one begins none: what came of that one, and how many were begun.
 fn poll_each(session: &mut Session, now: u64, runs: &mut [Run]) -> (Status, usize)
-    ensures { PollsMany result.0 now runs.old runs.new result.1 (Some session.old) (Some session.new) }
+    ensures { PollsMany result.0 now runs.old runs.new result.1 (Some session.old)
+        (Some session.new) }
 {
     let mut count = 0;
     while count < runs.len() {
@@ -59,7 +61,9 @@ pub fn finish_many(
     ends: &mut [End],
     ended: &mut usize,
 ) -> Status
-    ensures { FinishesMany result now (take (length ends.old) endings.now) ends.old ends.new ended.new (holding slot.old.full slot.old.held.value) (holding slot.new.full slot.new.held.value) }
+    ensures { FinishesMany result now (take (length ends.old) endings.now) ends.old ends.new
+        ended.new (holding slot.old.full slot.old.held.value)
+        (holding slot.new.full slot.new.held.value) }
 {
     *ended = 0;
     let Some(mut session) = slot.take(alloc) else {
@@ -80,7 +84,8 @@ fn finish_each(
     ends: &mut [End],
 ) -> (Status, usize)
     requires { length endings.now ≤ length ends.old }
-    ensures { FinishesMany result.0 now endings.now ends.old ends.new result.1 (Some session.old) (Some session.new) }
+    ensures { FinishesMany result.0 now endings.now ends.old ends.new result.1 (Some session.old)
+        (Some session.new) }
 {
     let mut count = 0;
     while count < endings.len() {

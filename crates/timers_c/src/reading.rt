@@ -10,7 +10,8 @@ use std::alloc::Global;
 
 /// The moment at which the first task that waits is due.
 pub fn read_due(alloc: Global, slot: &mut Slot, due: &mut u64) -> Status
-    ensures { ReadsDue result due.new (holding slot.old.full slot.old.held.value) (holding slot.new.full slot.new.held.value) }
+    ensures { ReadsDue result due.new (holding slot.old.full slot.old.held.value)
+        (holding slot.new.full slot.new.held.value) }
 {
     *due = 0;
     let Some(session) = slot.take(alloc) else {
@@ -29,7 +30,8 @@ pub fn read_due(alloc: Global, slot: &mut Slot, due: &mut u64) -> Status
 
 /// How far the task of a number is.
 pub fn read_task(alloc: Global, slot: &mut Slot, task: Ref, state: &mut TaskState) -> Status
-    ensures { ReadsTask result task state.new (holding slot.old.full slot.old.held.value) (holding slot.new.full slot.new.held.value) }
+    ensures { ReadsTask result task state.new (holding slot.old.full slot.old.held.value)
+        (holding slot.new.full slot.new.held.value) }
 {
     *state = TaskState::none();
     let Some(session) = slot.take(alloc) else {
@@ -47,7 +49,8 @@ pub fn read_task(alloc: Global, slot: &mut Slot, task: Ref, state: &mut TaskStat
 
 /// How far the timers are.
 pub fn read(alloc: Global, slot: &mut Slot, state: &mut State) -> Status
-    ensures { Reads result state.new (holding slot.old.full slot.old.held.value) (holding slot.new.full slot.new.held.value) }
+    ensures { Reads result state.new (holding slot.old.full slot.old.held.value)
+        (holding slot.new.full slot.new.held.value) }
 {
     *state = State::none();
     let Some(session) = slot.take(alloc) else {
@@ -60,7 +63,8 @@ pub fn read(alloc: Global, slot: &mut Slot, state: &mut State) -> Status
 
 /// The task at a place of those that the last call ended.
 pub fn read_ended(alloc: Global, slot: &mut Slot, place: usize, gone: &mut Gone) -> Status
-    ensures { ReadsEnded result place gone.new (holding slot.old.full slot.old.held.value) (holding slot.new.full slot.new.held.value) }
+    ensures { ReadsEnded result place gone.new (holding slot.old.full slot.old.held.value)
+        (holding slot.new.full slot.new.held.value) }
 {
     *gone = Gone::none();
     let Some(session) = slot.take(alloc) else {

@@ -14,7 +14,8 @@ use timers::{FinishError, PollError};
 /// A worker polls.
 #[inline(always)]
 pub fn poll(alloc: Global, slot: &mut Slot, now: u64, worker: u32, run: &mut Run) -> Status
-    ensures { TakesPoll result now worker run.new (holding slot.old.full slot.old.held.value) (holding slot.new.full slot.new.held.value) }
+    ensures { TakesPoll result now worker run.new (holding slot.old.full slot.old.held.value)
+        (holding slot.new.full slot.new.held.value) }
 {
     let Some(mut session) = slot.take(alloc) else {
         *run = Run::none();
@@ -52,7 +53,8 @@ pub fn finish(
     ending: Ending,
     end: &mut End,
 ) -> Status
-    ensures { TakesFinish result now worker ending end.new (holding slot.old.full slot.old.held.value) (holding slot.new.full slot.new.held.value) }
+    ensures { TakesFinish result now worker ending end.new
+        (holding slot.old.full slot.old.held.value) (holding slot.new.full slot.new.held.value) }
 {
     let Some(mut session) = slot.take(alloc) else {
         *end = End::none();
@@ -67,7 +69,8 @@ pub fn finish(
 /// The run of a worker has ended so: what came of it, and the end, or none.
 #[inline(always)]
 pub fn end_run(session: &mut Session, now: u64, worker: u32, ending: Ending) -> (Status, End)
-    ensures takes { TakesFinish result.0 now worker ending result.1 (Some session.old) (Some session.new) }
+    ensures takes { TakesFinish result.0 now worker ending result.1 (Some session.old)
+        (Some session.new) }
     ensures none { result.0 ≢ statuses.Done → result.1 ≡ no_end }
 {
     match session.finish(now, worker, ending) {

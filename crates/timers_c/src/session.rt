@@ -91,9 +91,13 @@ impl Session {
         submission: Submission,
         user_data: u64,
     ) -> Result<Submitted, CallError>
-        ensures made { IfOk result (λ s. Submits self.old self.new now (timing_of submission) (first_of submission) user_data s) }
+        ensures made { IfOk result
+            (λ s. Submits self.old self.new now (timing_of submission) (first_of submission)
+            user_data s) }
         ensures refused { OnErr result (self.new ≡ self.old) }
-        ensures failed { IfErr result (λ error. IsRefused self.old.timers.live now (timing_of submission) (first_of submission) error) }
+        ensures failed { IfErr result
+            (λ error. IsRefused self.old.timers.live now (timing_of submission)
+            (first_of submission) error) }
     {
         let submitted = submission.make(&mut self.timers, now, user_data)?;
         let said = submission.answer(submitted);
@@ -110,7 +114,8 @@ impl Session {
     pub fn cancel(&mut self, task: TaskRef) -> Result<CancelEffect, CallError>
         ensures made { IfOk result (λ effect. Cancels self.old self.new task.number effect) }
         ensures refused { OnErr result (self.new ≡ self.old) }
-        ensures failed { IfErr result (λ error. (error ≡ call_error.NoTask) × (self.old.timers.live.count ≤ task.number)) }
+        ensures failed { IfErr result
+            (λ error. (error ≡ call_error.NoTask) × (self.old.timers.live.count ≤ task.number)) }
     {
         let effect = self.timers.cancel(task)?;
         let task = task.number;
@@ -156,7 +161,8 @@ impl Session {
     pub fn finish(&mut self, now: u64, worker: u32, ending: Ending) -> Result<Finished, FinishError>
         ensures ends { IfOk result (λ f. EndsRun self.old self.new now worker ending f) }
         ensures refused { OnErr result (self.new ≡ self.old) }
-        ensures failed { IfErr result (λ error. IsFinishError self.old.timers.live now worker error) }
+        ensures failed { IfErr result
+            (λ error. IsFinishError self.old.timers.live now worker error) }
     {
         let moment = now.max(self.timers.now());
         if worker >= 256 {

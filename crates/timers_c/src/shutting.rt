@@ -10,7 +10,8 @@ use std::alloc::Global;
 
 /// Sets the policy of a number.
 pub fn set_policy(alloc: Global, slot: &mut Slot, now: u64, policy: u32, value: bool) -> Status
-    ensures { TakesPolicy result now policy value (holding slot.old.full slot.old.held.value) (holding slot.new.full slot.new.held.value) }
+    ensures { TakesPolicy result now policy value (holding slot.old.full slot.old.held.value)
+        (holding slot.new.full slot.new.held.value) }
 {
     if !slot.full {
         return Status::NoTimers;
@@ -41,7 +42,8 @@ fn policy_of(number: u32) -> Option<Which>
 
 /// Shuts the timers down in order.
 pub fn shut_down(alloc: Global, slot: &mut Slot, now: u64, first: &mut u32) -> Status
-    ensures { TakesShutdown result now first.new (holding slot.old.full slot.old.held.value) (holding slot.new.full slot.new.held.value) }
+    ensures { TakesShutdown result now first.new (holding slot.old.full slot.old.held.value)
+        (holding slot.new.full slot.new.held.value) }
 {
     *first = 0;
     let Some(mut session) = slot.take(alloc) else {
@@ -60,7 +62,8 @@ pub fn shut_down(alloc: Global, slot: &mut Slot, now: u64, first: &mut u32) -> S
 
 /// Shuts the timers down at once.
 pub fn shut_down_now(alloc: Global, slot: &mut Slot, now: u64) -> Status
-    ensures { TakesShutdownNow result now (holding slot.old.full slot.old.held.value) (holding slot.new.full slot.new.held.value) }
+    ensures { TakesShutdownNow result now (holding slot.old.full slot.old.held.value)
+        (holding slot.new.full slot.new.held.value) }
 {
     let Some(mut session) = slot.take(alloc) else {
         return Status::NoTimers;
@@ -72,7 +75,8 @@ pub fn shut_down_now(alloc: Global, slot: &mut Slot, now: u64) -> Status
 
 /// Asks how many tasks there are, by a call.
 pub fn ask(alloc: Global, slot: &mut Slot, now: u64, counts: &mut Counts) -> Status
-    ensures { TakesAsk result now counts.new (holding slot.old.full slot.old.held.value) (holding slot.new.full slot.new.held.value) }
+    ensures { TakesAsk result now counts.new (holding slot.old.full slot.old.held.value)
+        (holding slot.new.full slot.new.held.value) }
 {
     *counts = Counts::none();
     let Some(mut session) = slot.take(alloc) else {

@@ -36,11 +36,15 @@ impl Submission {
         user_data: u64,
     ) -> Result<Submitted, CallError>
         ensures legal { OnOk result (IsLegal (timing_of self)) }
-        ensures made { IfOk result (λ s. calls.Submits timers.old.live timers.new.live now (timing_of self) (first_of self) s) }
+        ensures made { IfOk result
+            (λ s. calls.Submits timers.old.live timers.new.live now (timing_of self)
+            (first_of self) s) }
         ensures gives { OnOk result (Gives timers.old timers.new user_data) }
-        ensures stays { OnOk result (StaysQuiet timers.old.live timers.new.live (timers.old.live.count + 1)) }
+        ensures stays { OnOk result
+            (StaysQuiet timers.old.live timers.new.live (timers.old.live.count + 1)) }
         ensures refused { OnErr result (timers.new ≡ timers.old) }
-        ensures failed { IfErr result (λ error. IsRefused timers.old.live now (timing_of self) (first_of self) error) }
+        ensures failed { IfErr result
+            (λ error. IsRefused timers.old.live now (timing_of self) (first_of self) error) }
     {
         match self {
             Submission::Once { delay } => timers.schedule(now, delay, user_data),

@@ -22,7 +22,9 @@ pub fn submit(
     user_data: u64,
     task: &mut Ref,
 ) -> Status
-    ensures { TakesSubmission result now (timing_of submission) (first_of submission) user_data task.new (holding slot.old.full slot.old.held.value) (holding slot.new.full slot.new.held.value) }
+    ensures { TakesSubmission result now (timing_of submission) (first_of submission) user_data
+        task.new (holding slot.old.full slot.old.held.value)
+        (holding slot.new.full slot.new.held.value) }
 {
     let Some(mut session) = slot.take(alloc) else {
         *task = Ref::none();
@@ -55,7 +57,8 @@ pub fn submit(
 /// A cancel of the task of a number.
 #[inline(always)]
 pub fn cancel(alloc: Global, slot: &mut Slot, task: Ref, effect: &mut u32) -> Status
-    ensures { TakesCancel result task effect.new (holding slot.old.full slot.old.held.value) (holding slot.new.full slot.new.held.value) }
+    ensures { TakesCancel result task effect.new (holding slot.old.full slot.old.held.value)
+        (holding slot.new.full slot.new.held.value) }
 {
     let Some(mut session) = slot.take(alloc) else {
         *effect = 0;

@@ -18,7 +18,8 @@ pub fn text(
     out: &mut [u8],
     copied: &mut Copied,
 ) -> Status
-    ensures { Copies result from out.old out.new copied.new (holding slot.old.full slot.old.held.value) (holding slot.new.full slot.new.held.value) }
+    ensures { Copies result from out.old out.new copied.new
+        (holding slot.old.full slot.old.held.value) (holding slot.new.full slot.new.held.value) }
 {
     *copied = Copied::none();
     let Some(session) = slot.take(alloc) else {

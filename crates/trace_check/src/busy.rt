@@ -33,7 +33,9 @@ impl Busy {
     /// Notes an answer.
     pub fn note(&mut self, answer: &Answer)
         ensures workers { self.new.workers ≡ self.old.workers }
-        ensures flags { (w : ℕ) → w < most_named → slice_index_or self.new.flags w false ≡ busy_by w answer.now (slice_index_or self.old.flags w false) }
+        ensures flags { (w : ℕ) → w < most_named
+            → slice_index_or self.new.flags w false
+            ≡ busy_by w answer.now (slice_index_or self.old.flags w false) }
     {
         match answer {
             Answer::Start { worker, .. } => self.flags[*worker as usize] = true,
@@ -44,7 +46,11 @@ impl Busy {
 
     /// The worker of least number that is busy, or that is not.
     fn first(&self, wanted: bool) -> Option<u8>
-        ensures { (test : ℕ → Bool) → ((w : ℕ) → w < most_named → test w ≡ (if wanted then slice_index_or self.now.flags w false else not (slice_index_or self.now.flags w false)))
+        ensures { (test : ℕ → Bool)
+            → ((w : ℕ) → w < most_named
+            → test w
+            ≡ (if wanted then slice_index_or self.now.flags w false
+            else not (slice_index_or self.now.flags w false)))
             → result ≡ find test (range_with_len 0 self.now.workers) }
     {
         let workers = self.workers;
@@ -59,7 +65,8 @@ impl Busy {
 
     /// A happening that gets this answer at this moment.
     pub fn representative(&self, moment: u64, answer: &Answer) -> Option<Happening>
-        ensures { (lines : List Said) → TellBusy self.now.flags lines → result ≡ representative_of self.now.workers lines moment answer.now }
+        ensures { (lines : List Said) → TellBusy self.now.flags lines
+            → result ≡ representative_of self.now.workers lines moment answer.now }
     {
         match answer {
             Answer::Outside { task, .. } => Some(Happening::Cancel(*task)),
@@ -80,7 +87,8 @@ impl Busy {
 
     /// An event that gets this error.
     fn representative_of_error(&self, error: EventError) -> Option<Happening>
-        ensures { (lines : List Said) → TellBusy self.now.flags lines → result ≡ representative_of_error self.now.workers lines error }
+        ensures { (lines : List Said) → TellBusy self.now.flags lines
+            → result ≡ representative_of_error self.now.workers lines error }
     {
         match error {
             EventError::Backward => Some(Happening::Clock(0)),

@@ -58,7 +58,8 @@ impl<A: Allocator> Checker<A> {
     where
         A: Copy,
         ensures workers { IsErrOf result CheckError.Workers ↔ ¬ IsWorkerCount workers }
-        ensures core { IfOk result (λ c. IsOpening c.core (calls_of_plan plan.now) workers most_events) }
+        ensures core { IfOk result
+            (λ c. IsOpening c.core (calls_of_plan plan.now) workers most_events) }
         ensures ready { IfOk result (λ c. IsReady c.core c.busy.workers (vec_capacity c.out)) }
         ensures owed { IfOk result (λ c. drop c.met c.out.items ≡ []) }
         ensures busy { IfOk result (λ c. TellBusy c.busy.flags []) }
@@ -79,7 +80,8 @@ impl<A: Allocator> Checker<A> {
         requires limit { self.old.core.limit ≡ most_events }
         requires taken { self.old.core.taken ≡ 0 }
         requires ready { IsReady self.old.core self.old.busy.workers (vec_capacity self.old.out) }
-        requires stands { IsStanding self.old.core (drop self.old.met self.old.out.items) self.old.busy.flags [] }
+        requires stands { IsStanding self.old.core (drop self.old.met self.old.out.items)
+            self.old.busy.flags [] }
         ensures { Finds self.old.core.calls (workers_of self.old.core) text.now result }
     {
         let mut rest = text;
@@ -105,10 +107,14 @@ impl<A: Allocator> Checker<A> {
     fn take(&mut self, line: &Line) -> bool
         requires ready { IsReady self.old.core self.old.busy.workers (vec_capacity self.old.out) }
         requires some { self.old.core.taken < self.old.core.limit }
-        ensures goes { IsTrue result → (lines : List Said) → IsStanding self.old.core (drop self.old.met self.old.out.items) self.old.busy.flags lines
-            → IsStanding self.new.core (drop self.new.met self.new.out.items) self.new.busy.flags (line.now ∷ lines) }
-        ensures breaks { result ≡ false → (lines : List Said) → IsStanding self.old.core (drop self.old.met self.old.out.items) self.old.busy.flags lines
-            → Goes self.old.core.calls (workers_of self.old.core) (line.now ∷ lines) → ⊥ }
+        ensures goes { IsTrue result → (lines : List Said)
+            → IsStanding self.old.core (drop self.old.met self.old.out.items) self.old.busy.flags
+            lines
+            → IsStanding self.new.core (drop self.new.met self.new.out.items) self.new.busy.flags
+            (line.now ∷ lines) }
+        ensures breaks { result ≡ false → (lines : List Said)
+            → IsStanding self.old.core (drop self.old.met self.old.out.items) self.old.busy.flags
+            lines → Goes self.old.core.calls (workers_of self.old.core) (line.now ∷ lines) → ⊥ }
         ensures calls { self.new.core.calls ≡ self.old.core.calls }
         ensures workers { workers_of self.new.core ≡ workers_of self.old.core }
         ensures ready { IsReady self.new.core self.new.busy.workers (vec_capacity self.new.out) }
@@ -132,10 +138,14 @@ impl<A: Allocator> Checker<A> {
     fn take_answer(&mut self, moment: u64, said: &Answer) -> bool
         requires ready { IsReady self.old.core self.old.busy.workers (vec_capacity self.old.out) }
         requires some { self.old.core.taken < self.old.core.limit }
-        ensures goes { IsTrue result → (lines : List Said) → IsStanding self.old.core [] self.old.busy.flags lines
-            → IsStanding self.new.core (drop self.new.met self.new.out.items) self.new.busy.flags (answer_line moment said.now ∷ lines) }
-        ensures breaks { result ≡ false → (lines : List Said) → IsStanding self.old.core [] self.old.busy.flags lines
-            → Goes self.old.core.calls (workers_of self.old.core) (answer_line moment said.now ∷ lines) → ⊥ }
+        ensures goes { IsTrue result → (lines : List Said)
+            → IsStanding self.old.core [] self.old.busy.flags lines
+            → IsStanding self.new.core (drop self.new.met self.new.out.items) self.new.busy.flags
+            (answer_line moment said.now ∷ lines) }
+        ensures breaks { result ≡ false → (lines : List Said)
+            → IsStanding self.old.core [] self.old.busy.flags lines
+            → Goes self.old.core.calls (workers_of self.old.core)
+            (answer_line moment said.now ∷ lines) → ⊥ }
         ensures calls { self.new.core.calls ≡ self.old.core.calls }
         ensures workers { workers_of self.new.core ≡ workers_of self.old.core }
         ensures ready { IsReady self.new.core self.new.busy.workers (vec_capacity self.new.out) }
@@ -176,7 +186,8 @@ fn core_of<A: Allocator + Copy, B: Allocator>(
     workers: u8,
 ) -> Result<Core<A>, CheckError>
     ensures workers { IsErrOf result CheckError.Workers ↔ ¬ IsWorkerCount workers }
-    ensures core { IfOk result (λ core. IsOpening core (calls_of_plan plan.now) workers most_events) }
+    ensures core { IfOk result
+        (λ core. IsOpening core (calls_of_plan plan.now) workers most_events) }
 {
     if workers == 0 || workers > MOST_WORKERS {
         return Err(CheckError::Workers);

@@ -27,7 +27,9 @@ pub fn picture<A: Allocator + Copy>(
 ) -> Result<Picture<A>, PictureError>
     ensures picture { IfOk result (λ p. p ≡ picture_of lines.now workers window) }
     ensures fits { IfOk result (λ p. crowd most p.marks p.bars ≡ None) }
-    ensures error { IfErr result (λ e. crowd_told e ≡ crowd most (marks_within window lines.now) (bars_within window lines.now)) }
+    ensures error { IfErr result
+        (λ e. crowd_told e
+        ≡ crowd most (marks_within window lines.now) (bars_within window lines.now)) }
 {
     let marks = count_marks(lines, window);
     if marks > most {

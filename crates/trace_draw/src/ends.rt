@@ -28,8 +28,10 @@ impl Ends {
 
     /// Reads the line in front of those read so far: the bar that it begins, if it starts a run.
     pub fn read(&mut self, line: &Line) -> Option<Bar>
-        ensures ends { (later : List Said) → TellEnds self.old.finishes later → TellEnds self.new.finishes (line.now ∷ later) }
-        ensures bar { (later : List Said) → TellEnds self.old.finishes later → result ≡ bar_in line.now.moment line.now.message later }
+        ensures ends { (later : List Said) → TellEnds self.old.finishes later
+            → TellEnds self.new.finishes (line.now ∷ later) }
+        ensures bar { (later : List Said) → TellEnds self.old.finishes later
+            → result ≡ bar_in line.now.moment line.now.message later }
     {
         match line.message() {
             Message::Answer(

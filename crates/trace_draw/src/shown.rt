@@ -37,7 +37,14 @@ impl<A: Allocator> Picture<A> {
         marks: Vec<Line, A>,
         ticks: Vec<Tick, A>,
     ) -> Picture<A>
-        ensures { result ≡ record { window = window; workers = workers; bars = bars.items; marks = marks.items; ticks = ticks.items } }
+        ensures { result
+            ≡ record {
+              window = window;
+              workers = workers;
+              bars = bars.items;
+              marks = marks.items;
+              ticks = ticks.items;
+            } }
     {
         Picture {
             window,

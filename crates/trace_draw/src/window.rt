@@ -12,7 +12,8 @@ pub struct Window {
 impl Window {
     /// The window from one moment to another: `None` exactly where the second is below the first.
     pub fn new(from: u64, to: u64) -> Option<Window>
-        ensures { MatchOption result (to < from) (λ w. (w.from ≡ from) × (w.to ≡ to) × (from ≤ to)) }
+        ensures { MatchOption result (to < from)
+            (λ w. (w.from ≡ from) × (w.to ≡ to) × (from ≤ to)) }
     {
         if to < from {
             return None;

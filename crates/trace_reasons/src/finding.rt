@@ -28,14 +28,22 @@ pub fn reason_of_trace<'t, A: Allocator + Copy, B: Allocator>(
 ) -> Result<Option<TraceReason<'t, A>>, CheckError>
     requires { length text.now ≤ most_bytes }
     ensures workers { IsErrOf result CheckError.Workers ↔ ¬ IsWorkerCount workers }
-    ensures conforms { IfOk result (λ o. IfNone o (Conforms (calls_of_plan plan.now) workers text.now)) }
-    ensures breaks { IfOk result (λ o. IfSome o (λ r. Breaks (calls_of_plan plan.now) workers text.now r.line)) }
-    ensures found { IfOk result (λ o. IfSome o (λ r. option_map (λ found. found.now) r.found ≡ line_at r.line text.now)) }
-    ensures fault { IfOk result (λ o. IfSome o (λ r. IsFaultAt r.fault (option_map (λ found. found.now) r.found))) }
-    ensures lines { IfOk result (λ o. IfSome o (λ r. All (CouldStand (calls_of_plan plan.now) workers text.now r.line) r.lines.items)) }
+    ensures conforms { IfOk result
+        (λ o. IfNone o (Conforms (calls_of_plan plan.now) workers text.now)) }
+    ensures breaks { IfOk result
+        (λ o. IfSome o (λ r. Breaks (calls_of_plan plan.now) workers text.now r.line)) }
+    ensures found { IfOk result
+        (λ o. IfSome o (λ r. option_map (λ found. found.now) r.found ≡ line_at r.line text.now)) }
+    ensures fault { IfOk result
+        (λ o. IfSome o (λ r. IsFaultAt r.fault (option_map (λ found. found.now) r.found))) }
+    ensures lines { IfOk result
+        (λ o. IfSome o
+        (λ r. All (CouldStand (calls_of_plan plan.now) workers text.now r.line) r.lines.items)) }
     ensures few { IfOk result (λ o. IfSome o (λ r. length r.lines.items ≤ 3)) }
-    ensures differ { IfOk result (λ o. IfSome o (λ r. AllPairs (λ line other. line ≢ other) r.lines.items)) }
-    ensures others { IfOk result (λ o. IfSome o (λ r. AreConforming (calls_of_plan plan.now) text.now r.workers.items)) }
+    ensures differ { IfOk result
+        (λ o. IfSome o (λ r. AllPairs (λ line other. line ≢ other) r.lines.items)) }
+    ensures others { IfOk result
+        (λ o. IfSome o (λ r. AreConforming (calls_of_plan plan.now) text.now r.workers.items)) }
 {
     match check(alloc, plan, workers, text)? {
         Finding::Conforms => Ok(None),
@@ -59,14 +67,23 @@ impl<'t, A: Allocator + Copy, B: Allocator> Scene<'_, 't, A, B> {
     /// The reason. `Err` is a refused growth.
     fn reason(&self) -> Result<TraceReason<'t, A>, AllocError>
         requires size { length self.now.text.now ≤ most_bytes }
-        requires breaks { Breaks (calls_of_plan self.now.plan.now) self.now.workers self.now.text.now self.now.line }
+        requires breaks { Breaks (calls_of_plan self.now.plan.now) self.now.workers
+            self.now.text.now self.now.line }
         ensures line { IfOk result (λ r. r.line ≡ self.now.line) }
-        ensures found { IfOk result (λ r. option_map (λ found. found.now) r.found ≡ line_at self.now.line self.now.text.now) }
-        ensures fault { IfOk result (λ r. IsFaultAt r.fault (option_map (λ found. found.now) r.found)) }
-        ensures lines { IfOk result (λ r. All (CouldStand (calls_of_plan self.now.plan.now) self.now.workers self.now.text.now self.now.line) r.lines.items) }
+        ensures found { IfOk result
+            (λ r. option_map (λ found. found.now) r.found
+            ≡ line_at self.now.line self.now.text.now) }
+        ensures fault { IfOk result
+            (λ r. IsFaultAt r.fault (option_map (λ found. found.now) r.found)) }
+        ensures lines { IfOk result
+            (λ r. All
+            (CouldStand (calls_of_plan self.now.plan.now) self.now.workers self.now.text.now
+            self.now.line) r.lines.items) }
         ensures few { IfOk result (λ r. length r.lines.items ≤ 3) }
         ensures differ { IfOk result (λ r. AllPairs (λ line other. line ≢ other) r.lines.items) }
-        ensures others { IfOk result (λ r. AreConforming (calls_of_plan self.now.plan.now) self.now.text.now r.workers.items) }
+        ensures others { IfOk result
+            (λ r. AreConforming (calls_of_plan self.now.plan.now) self.now.text.now
+            r.workers.items) }
     {
         let found = line_at(self.text, self.line);
         let candidates = self.candidates(found)?;

@@ -16,8 +16,11 @@ impl<A: Allocator + Copy, B: Allocator> Scene<'_, '_, A, B> {
     /// The numbers of workers with which the text conforms, in ascending order. `Err` is a refused growth.
     pub fn conforming(&self) -> Result<Vec<u8, A>, AllocError>
         requires size { length self.now.text.now ≤ most_bytes }
-        requires breaks { Breaks (calls_of_plan self.now.plan.now) self.now.workers self.now.text.now self.now.line }
-        ensures { IfOk result (λ numbers. AreConforming (calls_of_plan self.now.plan.now) self.now.text.now numbers.items) }
+        requires breaks { Breaks (calls_of_plan self.now.plan.now) self.now.workers
+            self.now.text.now self.now.line }
+        ensures { IfOk result
+            (λ numbers. AreConforming (calls_of_plan self.now.plan.now) self.now.text.now
+            numbers.items) }
     {
         let mut numbers = Vec::new(self.alloc);
         for workers in 1..=MOST_WORKERS {
@@ -32,8 +35,11 @@ impl<A: Allocator + Copy, B: Allocator> Scene<'_, '_, A, B> {
     fn conforms_with(&self, workers: u8) -> Result<bool, AllocError>
         requires size { length self.now.text.now ≤ most_bytes }
         requires count { IsWorkerCount workers }
-        requires breaks { Breaks (calls_of_plan self.now.plan.now) self.now.workers self.now.text.now self.now.line }
-        ensures { IfOk result (λ conforms. IsTrue conforms ↔ Conforms (calls_of_plan self.now.plan.now) workers self.now.text.now) }
+        requires breaks { Breaks (calls_of_plan self.now.plan.now) self.now.workers
+            self.now.text.now self.now.line }
+        ensures { IfOk result
+            (λ conforms. IsTrue conforms
+            ↔ Conforms (calls_of_plan self.now.plan.now) workers self.now.text.now) }
     {
         if workers == self.workers {
             return Ok(false);

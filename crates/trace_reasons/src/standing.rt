@@ -17,7 +17,10 @@ const MOST_LINES: usize = 3;
 impl<A: Allocator + Copy, B: Allocator> Scene<'_, '_, A, B> {
     /// Those of some lines that could stand where the text breaks, each once, the first three. `Err` is a refused growth.
     pub fn standing(&self, lines: &[Line]) -> Result<Vec<Line, A>, AllocError>
-        ensures stand { IfOk result (λ those. All (CouldStand (calls_of_plan self.now.plan.now) self.now.workers self.now.text.now self.now.line) those.items) }
+        ensures stand { IfOk result
+            (λ those. All
+            (CouldStand (calls_of_plan self.now.plan.now) self.now.workers self.now.text.now
+            self.now.line) those.items) }
         ensures few { IfOk result (λ those. length those.items ≤ 3) }
         ensures differ { IfOk result (λ those. AllPairs (λ line other. line ≢ other) those.items) }
     {
@@ -32,7 +35,10 @@ impl<A: Allocator + Copy, B: Allocator> Scene<'_, '_, A, B> {
 
     /// Whether a line could stand where the text breaks. `Err` is a refused growth.
     fn could_stand(&self, line: &Line) -> Result<bool, AllocError>
-        ensures { IfOk result (λ could. IsTrue could → CouldStand (calls_of_plan self.now.plan.now) self.now.workers self.now.text.now self.now.line line.now) }
+        ensures { IfOk result
+            (λ could. IsTrue could
+            → CouldStand (calls_of_plan self.now.plan.now) self.now.workers self.now.text.now
+            self.now.line line.now) }
     {
         let mut text = Vec::new(self.alloc);
         text.extend_from_slice(lines_before(self.text, self.line))?;

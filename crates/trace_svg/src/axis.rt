@@ -18,7 +18,8 @@ pub fn put_axis<A: Allocator + Copy>(
     workers: u8,
     ticks: &[Tick],
 ) -> Result<(), AllocError>
-    ensures { OnOk result (string_bytes text.new ≡ string_bytes text.old ++ axis_text window workers ticks.now) }
+    ensures { OnOk result
+        (string_bytes text.new ≡ string_bytes text.old ++ axis_text window workers ticks.now) }
 {
     put_ticks(alloc, text, window, workers, ticks)?;
     let top = axis_top(workers);
@@ -38,7 +39,9 @@ fn put_ticks<A: Allocator + Copy>(
     workers: u8,
     ticks: &[Tick],
 ) -> Result<(), AllocError>
-    ensures { OnOk result (string_bytes text.new ≡ string_bytes text.old ++ flat_map (tick_text window workers) ticks.now) }
+    ensures { OnOk result
+        (string_bytes text.new
+        ≡ string_bytes text.old ++ flat_map (tick_text window workers) ticks.now) }
 {
     for tick in ticks {
         put_tick(alloc, text, window, workers, tick)?;
@@ -54,7 +57,8 @@ fn put_tick<A: Allocator + Copy>(
     workers: u8,
     tick: &Tick,
 ) -> Result<(), AllocError>
-    ensures { OnOk result (string_bytes text.new ≡ string_bytes text.old ++ tick_text window workers tick.now) }
+    ensures { OnOk result
+        (string_bytes text.new ≡ string_bytes text.old ++ tick_text window workers tick.now) }
 {
     let x = across(window, tick.moment);
     let top = axis_top(workers);

@@ -36,8 +36,10 @@ pub fn draw<A: Allocator + Copy, B: Allocator, W: Sink>(
     writer: &mut W,
 ) -> Result<Drawn, DrawError>
     requires { length trace.now ≤ most_bytes }
-    ensures draws { Draws result plan.now workers trace.now view (W.contents writer.old) (W.contents writer.new) }
-    ensures write { CountsDrawing result (W.failed writer.old) (W.fruitless writer.old) (W.failed writer.new) (W.fruitless writer.new) }
+    ensures draws { Draws result plan.now workers trace.now view (W.contents writer.old)
+        (W.contents writer.new) }
+    ensures write { CountsDrawing result (W.failed writer.old) (W.fruitless writer.old)
+        (W.failed writer.new) (W.fruitless writer.new) }
     ensures workers { IsErrOf result DrawError.Workers ↔ ¬ IsWorkerCount workers }
 {
     if let Finding::Breaks(line) = check(alloc, plan, workers, trace)? {
@@ -59,7 +61,8 @@ fn picture_of_trace<A: Allocator + Copy, B: Allocator>(
     view: View,
 ) -> Result<String<A>, DrawError>
     requires { Conforms (calls_of_plan plan.now) workers trace.now }
-    ensures picture { IfOk result (λ text. IsPictureOf plan.now workers trace.now view (string_bytes text)) }
+    ensures picture { IfOk result
+        (λ text. IsPictureOf plan.now workers trace.now view (string_bytes text)) }
     ensures refuses { IfErr result (λ e. RefusesPicture e plan.now workers trace.now view) }
     ensures workers { IsErrOf result DrawError.Workers → ⊥ }
 {

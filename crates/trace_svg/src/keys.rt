@@ -53,7 +53,8 @@ pub fn put_legend<A: Allocator>(text: &mut String<A>) -> Result<(), AllocError>
 
 /// Appends a legend of colours.
 fn put_fills<A: Allocator>(text: &mut String<A>, keys: &[(Fill, u16)]) -> Result<(), AllocError>
-    ensures { OnOk result (string_bytes text.new ≡ string_bytes text.old ++ flat_map fill_key keys.now) }
+    ensures { OnOk result
+        (string_bytes text.new ≡ string_bytes text.old ++ flat_map fill_key keys.now) }
 {
     for key in keys {
         put_fill(text, *key)?;
@@ -86,7 +87,8 @@ fn put_fill<A: Allocator>(text: &mut String<A>, key: (Fill, u16)) -> Result<(), 
 
 /// Appends a legend of shapes.
 fn put_glyphs<A: Allocator>(text: &mut String<A>, keys: &[(Glyph, u16)]) -> Result<(), AllocError>
-    ensures { OnOk result (string_bytes text.new ≡ string_bytes text.old ++ flat_map glyph_key keys.now) }
+    ensures { OnOk result
+        (string_bytes text.new ≡ string_bytes text.old ++ flat_map glyph_key keys.now) }
 {
     for key in keys {
         put_glyph(text, *key)?;
@@ -124,7 +126,8 @@ pub fn put_rows<A: Allocator>(text: &mut String<A>) -> Result<(), AllocError>
 
 /// Appends rows of marks.
 fn put_each_row<A: Allocator>(text: &mut String<A>, glyphs: &[Glyph]) -> Result<(), AllocError>
-    ensures { OnOk result (string_bytes text.new ≡ string_bytes text.old ++ flat_map row_text glyphs.now) }
+    ensures { OnOk result
+        (string_bytes text.new ≡ string_bytes text.old ++ flat_map row_text glyphs.now) }
 {
     for glyph in glyphs {
         put_row(text, *glyph)?;

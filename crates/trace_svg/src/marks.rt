@@ -32,7 +32,8 @@ pub fn put_telling_mark<A: Allocator>(
     line: Line,
     tip: &str,
 ) -> Result<(), AllocError>
-    ensures { OnOk result (string_bytes text.new ≡ string_bytes text.old ++ telling_mark window tip.now line) }
+    ensures { OnOk result
+        (string_bytes text.new ≡ string_bytes text.old ++ telling_mark window tip.now line) }
 {
     let glyph = glyph_of(line.message());
     let mark = Mark {

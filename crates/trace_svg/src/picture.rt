@@ -22,7 +22,8 @@ pub fn picture_text<A: Allocator + Copy, B: Allocator>(
     picture: &Picture<B>,
     names: &[&Name],
 ) -> Result<String<A>, AllocError>
-    ensures { IfOk result (λ text. string_bytes text ≡ svg_text picture.now (map (λ n. n.now) names.now)) }
+    ensures { IfOk result
+        (λ text. string_bytes text ≡ svg_text picture.now (map (λ n. n.now) names.now)) }
 {
     let window = picture.window();
     let workers = picture.workers();

@@ -25,7 +25,10 @@ pub fn put_bars<A: Allocator + Copy>(
     names: &[&Name],
     bars: &[Bar],
 ) -> Result<(), AllocError>
-    ensures { OnOk result (string_bytes text.new ≡ string_bytes text.old ++ flat_map (pile_text window (map (λ n. n.now) names.now)) (piles_of window bars.now)) }
+    ensures { OnOk result
+        (string_bytes text.new
+        ≡ string_bytes text.old
+        ++ flat_map (pile_text window (map (λ n. n.now) names.now)) (piles_of window bars.now)) }
 {
     put_lanes(alloc, text, window, names, bars, MOST_NAMED)
 }
@@ -39,7 +42,12 @@ fn put_lanes<A: Allocator + Copy>(
     bars: &[Bar],
     lanes: u16,
 ) -> Result<(), AllocError>
-    ensures { OnOk result (string_bytes text.new ≡ string_bytes text.old ++ flat_map (λ worker. flat_map (pile_text window (map (λ n. n.now) names.now)) (piles_in window worker bars.now)) (range_with_len 0 lanes)) }
+    ensures { OnOk result
+        (string_bytes text.new
+        ≡ string_bytes text.old
+        ++ flat_map
+        (λ worker. flat_map (pile_text window (map (λ n. n.now) names.now))
+        (piles_in window worker bars.now)) (range_with_len 0 lanes)) }
 {
     for worker in 0..lanes {
         put_lane(alloc, text, window, names, bars, worker)?;
@@ -56,7 +64,11 @@ fn put_lane<A: Allocator + Copy>(
     bars: &[Bar],
     worker: u16,
 ) -> Result<(), AllocError>
-    ensures { OnOk result (string_bytes text.new ≡ string_bytes text.old ++ flat_map (pile_text window (map (λ n. n.now) names.now)) (piles_in window worker bars.now)) }
+    ensures { OnOk result
+        (string_bytes text.new
+        ≡ string_bytes text.old
+        ++ flat_map (pile_text window (map (λ n. n.now) names.now))
+        (piles_in window worker bars.now)) }
 {
     let lane = lane_of(alloc, bars, worker)?;
     put_piles(alloc, text, window, names, &lane)
@@ -83,7 +95,11 @@ fn put_piles<A: Allocator + Copy>(
     names: &[&Name],
     lane: &[Bar],
 ) -> Result<(), AllocError>
-    ensures { OnOk result (string_bytes text.new ≡ string_bytes text.old ++ flat_map (pile_text window (map (λ n. n.now) names.now)) (groups_of (lies_on window) lane.now)) }
+    ensures { OnOk result
+        (string_bytes text.new
+        ≡ string_bytes text.old
+        ++ flat_map (pile_text window (map (λ n. n.now) names.now))
+        (groups_of (lies_on window) lane.now)) }
 {
     let mut rest = lane;
     while !rest.is_empty() {
@@ -99,7 +115,8 @@ fn pile_len(window: Window, lane: &[Bar]) -> usize
     requires { 0 < length lane.now }
     ensures some { 0 < result }
     ensures within { result ≤ length lane.now }
-    ensures pile { groups_of (lies_on window) lane.now ≡ take result lane.now ∷ groups_of (lies_on window) (drop result lane.now) }
+    ensures pile { groups_of (lies_on window) lane.now
+        ≡ take result lane.now ∷ groups_of (lies_on window) (drop result lane.now) }
 {
     let mut end = bar_right(window, &lane[0]);
     for index in 1..lane.len() {
@@ -128,7 +145,9 @@ fn put_pile<A: Allocator + Copy>(
     names: &[&Name],
     pile: &[Bar],
 ) -> Result<(), AllocError>
-    ensures { OnOk result (string_bytes text.new ≡ string_bytes text.old ++ pile_text window (map (λ n. n.now) names.now) pile.now) }
+    ensures { OnOk result
+        (string_bytes text.new
+        ≡ string_bytes text.old ++ pile_text window (map (λ n. n.now) names.now) pile.now) }
 {
     match pile {
         [] => Ok(()),
@@ -145,7 +164,11 @@ fn put_several<A: Allocator + Copy>(
     names: &[&Name],
     pile: &[Bar],
 ) -> Result<(), AllocError>
-    ensures { OnOk result (string_bytes text.new ≡ string_bytes text.old ++ (pile_shape window (map (λ n. n.now) names.now) pile.now ++ pile_label window pile.now)) }
+    ensures { OnOk result
+        (string_bytes text.new
+        ≡ string_bytes text.old
+        ++ (pile_shape window (map (λ n. n.now) names.now) pile.now
+        ++ pile_label window pile.now)) }
 {
     put_shape(alloc, text, window, names, pile)?;
     put_label(alloc, text, window, pile)
@@ -159,7 +182,9 @@ fn put_shape<A: Allocator + Copy>(
     names: &[&Name],
     pile: &[Bar],
 ) -> Result<(), AllocError>
-    ensures { OnOk result (string_bytes text.new ≡ string_bytes text.old ++ pile_shape window (map (λ n. n.now) names.now) pile.now) }
+    ensures { OnOk result
+        (string_bytes text.new
+        ≡ string_bytes text.old ++ pile_shape window (map (λ n. n.now) names.now) pile.now) }
 {
     let fill = pile_fill(pile);
     let left = pile_left(window, pile);
@@ -184,7 +209,8 @@ fn put_label<A: Allocator + Copy>(
     window: Window,
     pile: &[Bar],
 ) -> Result<(), AllocError>
-    ensures { OnOk result (string_bytes text.new ≡ string_bytes text.old ++ pile_label window pile.now) }
+    ensures { OnOk result
+        (string_bytes text.new ≡ string_bytes text.old ++ pile_label window pile.now) }
 {
     let label = runs_label(alloc, pile.len())?;
     if label.len() > letters_in(pile_width(window, pile)) {
@@ -206,7 +232,8 @@ fn put_number<A: Allocator + Copy>(
     window: Window,
     pile: &[Bar],
 ) -> Result<(), AllocError>
-    ensures { OnOk result (string_bytes text.new ≡ string_bytes text.old ++ pile_number window pile.now) }
+    ensures { OnOk result
+        (string_bytes text.new ≡ string_bytes text.old ++ pile_number window pile.now) }
 {
     let count = pile.len();
     let number = format!(in alloc; "{count}")?;
@@ -303,7 +330,8 @@ fn pile_tip<A: Allocator + Copy>(
     names: &[&Name],
     pile: &[Bar],
 ) -> Result<String<A>, AllocError>
-    ensures { IfOk result (λ text. string_bytes text ≡ pile_tip (map (λ n. n.now) names.now) pile.now) }
+    ensures { IfOk result
+        (λ text. string_bytes text ≡ pile_tip (map (λ n. n.now) names.now) pile.now) }
 {
     let mut tip = runs_label(alloc, pile.len())?;
     tip.push_str("\n")?;

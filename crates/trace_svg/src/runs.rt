@@ -20,7 +20,9 @@ pub fn put_bar<A: Allocator + Copy>(
     names: &[&Name],
     bar: &Bar,
 ) -> Result<(), AllocError>
-    ensures { OnOk result (string_bytes text.new ≡ string_bytes text.old ++ bar_text window (map (λ n. n.now) names.now) bar.now) }
+    ensures { OnOk result
+        (string_bytes text.new
+        ≡ string_bytes text.old ++ bar_text window (map (λ n. n.now) names.now) bar.now) }
 {
     put_named_bar(alloc, text, window, name_of(names, bar.task), bar)
 }
@@ -43,7 +45,8 @@ fn put_named_bar<A: Allocator + Copy>(
     name: &str,
     bar: &Bar,
 ) -> Result<(), AllocError>
-    ensures { OnOk result (string_bytes text.new ≡ string_bytes text.old ++ named_bar_text window name.now bar.now) }
+    ensures { OnOk result
+        (string_bytes text.new ≡ string_bytes text.old ++ named_bar_text window name.now bar.now) }
 {
     put_shape(alloc, text, window, name, bar)?;
     put_label(alloc, text, window, name, bar)
@@ -57,7 +60,8 @@ fn put_shape<A: Allocator + Copy>(
     name: &str,
     bar: &Bar,
 ) -> Result<(), AllocError>
-    ensures { OnOk result (string_bytes text.new ≡ string_bytes text.old ++ bar_shape window name.now bar.now) }
+    ensures { OnOk result
+        (string_bytes text.new ≡ string_bytes text.old ++ bar_shape window name.now bar.now) }
 {
     let left = across(window, bar.first);
     let top = lane_top(bar.worker);
@@ -82,7 +86,8 @@ fn put_label<A: Allocator + Copy>(
     name: &str,
     bar: &Bar,
 ) -> Result<(), AllocError>
-    ensures { OnOk result (string_bytes text.new ≡ string_bytes text.old ++ bar_label window name.now bar.now) }
+    ensures { OnOk result
+        (string_bytes text.new ≡ string_bytes text.old ++ bar_label window name.now bar.now) }
 {
     let label = run_label(alloc, name, bar.run)?;
     if label.len() > letters_in(bar_width(window, bar)) {

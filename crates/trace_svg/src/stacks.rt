@@ -23,7 +23,9 @@ pub fn put_marks<A: Allocator + Copy>(
     window: Window,
     lines: &[Line],
 ) -> Result<(), AllocError>
-    ensures { OnOk result (string_bytes text.new ≡ string_bytes text.old ++ flat_map (stack_text window) (stacks_of window lines.now)) }
+    ensures { OnOk result
+        (string_bytes text.new
+        ≡ string_bytes text.old ++ flat_map (stack_text window) (stacks_of window lines.now)) }
 {
     put_rows(alloc, text, window, lines, &ROWS)
 }
@@ -36,7 +38,11 @@ fn put_rows<A: Allocator + Copy>(
     lines: &[Line],
     rows: &[Glyph],
 ) -> Result<(), AllocError>
-    ensures { OnOk result (string_bytes text.new ≡ string_bytes text.old ++ flat_map (λ row. flat_map (stack_text window) (stacks_in window row lines.now)) rows.now) }
+    ensures { OnOk result
+        (string_bytes text.new
+        ≡ string_bytes text.old
+        ++ flat_map (λ row. flat_map (stack_text window) (stacks_in window row lines.now))
+        rows.now) }
 {
     for row in rows {
         put_row(alloc, text, window, lines, *row)?;
@@ -52,7 +58,9 @@ fn put_row<A: Allocator + Copy>(
     lines: &[Line],
     row: Glyph,
 ) -> Result<(), AllocError>
-    ensures { OnOk result (string_bytes text.new ≡ string_bytes text.old ++ flat_map (stack_text window) (stacks_in window row lines.now)) }
+    ensures { OnOk result
+        (string_bytes text.new
+        ≡ string_bytes text.old ++ flat_map (stack_text window) (stacks_in window row lines.now)) }
 {
     let marks = row_of(alloc, lines, row)?;
     put_stacks(alloc, text, window, &marks)
@@ -86,7 +94,10 @@ fn put_stacks<A: Allocator + Copy>(
     window: Window,
     marks: &[Line],
 ) -> Result<(), AllocError>
-    ensures { OnOk result (string_bytes text.new ≡ string_bytes text.old ++ flat_map (stack_text window) (groups_of (stands_on window) marks.now)) }
+    ensures { OnOk result
+        (string_bytes text.new
+        ≡ string_bytes text.old
+        ++ flat_map (stack_text window) (groups_of (stands_on window) marks.now)) }
 {
     let mut rest = marks;
     while !rest.is_empty() {
@@ -102,7 +113,8 @@ fn stack_len(window: Window, marks: &[Line]) -> usize
     requires { 0 < length marks.now }
     ensures some { 0 < result }
     ensures within { result ≤ length marks.now }
-    ensures stack { groups_of (stands_on window) marks.now ≡ take result marks.now ∷ groups_of (stands_on window) (drop result marks.now) }
+    ensures stack { groups_of (stands_on window) marks.now
+        ≡ take result marks.now ∷ groups_of (stands_on window) (drop result marks.now) }
 {
     let place = across(window, marks[0].moment());
     for index in 1..marks.len() {
@@ -120,7 +132,8 @@ fn put_stack<A: Allocator + Copy>(
     window: Window,
     stack: &[Line],
 ) -> Result<(), AllocError>
-    ensures { OnOk result (string_bytes text.new ≡ string_bytes text.old ++ stack_text window stack.now) }
+    ensures { OnOk result
+        (string_bytes text.new ≡ string_bytes text.old ++ stack_text window stack.now) }
 {
     match stack {
         [] => Ok(()),
@@ -139,7 +152,8 @@ fn put_each_mark<A: Allocator + Copy>(
     window: Window,
     lines: &[Line],
 ) -> Result<(), AllocError>
-    ensures { OnOk result (string_bytes text.new ≡ string_bytes text.old ++ flat_map (line_mark window) lines.now) }
+    ensures { OnOk result
+        (string_bytes text.new ≡ string_bytes text.old ++ flat_map (line_mark window) lines.now) }
 {
     for line in lines {
         put_mark(alloc, text, window, *line)?;
@@ -155,7 +169,11 @@ fn put_top<A: Allocator + Copy>(
     stack: &[Line],
     top: Line,
 ) -> Result<(), AllocError>
-    ensures { OnOk result (string_bytes text.new ≡ string_bytes text.old ++ (telling_mark window (flat_map line_text stack.now) top ++ stack_label window stack.now)) }
+    ensures { OnOk result
+        (string_bytes text.new
+        ≡ string_bytes text.old
+        ++ (telling_mark window (flat_map line_text stack.now) top
+        ++ stack_label window stack.now)) }
 {
     let tip = stack_tip(alloc, stack)?;
     put_telling_mark(text, window, top, &tip)?;
@@ -181,7 +199,8 @@ fn put_number<A: Allocator + Copy>(
     window: Window,
     stack: &[Line],
 ) -> Result<(), AllocError>
-    ensures { OnOk result (string_bytes text.new ≡ string_bytes text.old ++ stack_label window stack.now) }
+    ensures { OnOk result
+        (string_bytes text.new ≡ string_bytes text.old ++ stack_label window stack.now) }
 {
     let count = stack.len();
     let number = format!(in alloc; "{count}")?;

@@ -20,7 +20,8 @@ pub struct View {
 impl View {
     /// The part of time that it shows of lines: `None` exactly where it ends before it begins.
     pub(crate) fn window(self, lines: &[Line]) -> Option<Window>
-        ensures { MatchOption result (view_ends self lines.now < view_begins self lines.now) (IsViewOf self lines.now) }
+        ensures { MatchOption result (view_ends self lines.now < view_begins self lines.now)
+            (IsViewOf self lines.now) }
     {
         let whole = whole_window(lines);
         let from = self.from.unwrap_or(whole.from());

@@ -14,7 +14,8 @@ use executor_core::{Answer, CancelEffect, Message};
 /// A worker that starts a run, or gets no work.
 #[inline(always)]
 pub fn split_start(bytes: &[u8]) -> Option<(Message, &[u8])>
-    ensures { MatchOption result (IsUnread message_text FitsMessage (codes " start " ++ bytes.now)) (λ r. IsRead message_text FitsMessage (codes " start " ++ bytes.now) r.0 r.1.now) }
+    ensures { MatchOption result (IsUnread message_text FitsMessage (codes " start " ++ bytes.now))
+        (λ r. IsRead message_text FitsMessage (codes " start " ++ bytes.now) r.0 r.1.now) }
 {
     let Some((worker, rest)) = worker_before(bytes, b" ") else {
         return None;
@@ -48,7 +49,8 @@ pub fn split_start(bytes: &[u8]) -> Option<(Message, &[u8])>
 /// A worker whose run ended.
 #[inline(always)]
 pub fn split_finish(bytes: &[u8]) -> Option<(Message, &[u8])>
-    ensures { MatchOption result (IsUnread message_text FitsMessage (codes " finish " ++ bytes.now)) (λ r. IsRead message_text FitsMessage (codes " finish " ++ bytes.now) r.0 r.1.now) }
+    ensures { MatchOption result (IsUnread message_text FitsMessage (codes " finish " ++ bytes.now))
+        (λ r. IsRead message_text FitsMessage (codes " finish " ++ bytes.now) r.0 r.1.now) }
 {
     let Some((worker, rest)) = worker_before(bytes, b" task ") else {
         return None;
@@ -76,7 +78,8 @@ pub fn split_finish(bytes: &[u8]) -> Option<(Message, &[u8])>
 /// A task that was accepted.
 #[inline(always)]
 pub fn split_submit(bytes: &[u8]) -> Option<(Message, &[u8])>
-    ensures { MatchOption result (IsUnread message_text FitsMessage (codes " submit " ++ bytes.now)) (λ r. IsRead message_text FitsMessage (codes " submit " ++ bytes.now) r.0 r.1.now) }
+    ensures { MatchOption result (IsUnread message_text FitsMessage (codes " submit " ++ bytes.now))
+        (λ r. IsRead message_text FitsMessage (codes " submit " ++ bytes.now) r.0 r.1.now) }
 {
     let Some((task, rest)) = code_before(bytes, b" ") else {
         return None;
@@ -92,7 +95,8 @@ pub fn split_submit(bytes: &[u8]) -> Option<(Message, &[u8])>
 
 /// A task that was not accepted.
 pub fn split_refuse(bytes: &[u8]) -> Option<(Message, &[u8])>
-    ensures { MatchOption result (IsUnread message_text FitsMessage (codes " refuse " ++ bytes.now)) (λ r. IsRead message_text FitsMessage (codes " refuse " ++ bytes.now) r.0 r.1.now) }
+    ensures { MatchOption result (IsUnread message_text FitsMessage (codes " refuse " ++ bytes.now))
+        (λ r. IsRead message_text FitsMessage (codes " refuse " ++ bytes.now) r.0 r.1.now) }
 {
     let Some((task, rest)) = code_before(bytes, b" ") else {
         return None;
@@ -106,7 +110,8 @@ pub fn split_refuse(bytes: &[u8]) -> Option<(Message, &[u8])>
 /// A task of which a cancel was asked for, by the plan or from outside, and what that did. Both words have this behind them, so
 /// that these bytes alone are told of.
 pub fn split_cancel(bytes: &[u8]) -> Option<((u32, CancelEffect), &[u8])>
-    ensures { MatchOption result (IsUnread cancel_text FitsCancel bytes.now) (λ r. IsRead cancel_text FitsCancel bytes.now r.0 r.1.now) }
+    ensures { MatchOption result (IsUnread cancel_text FitsCancel bytes.now)
+        (λ r. IsRead cancel_text FitsCancel bytes.now r.0 r.1.now) }
 {
     let Some((task, rest)) = code_before(bytes, b" ") else {
         return None;
@@ -119,7 +124,8 @@ pub fn split_cancel(bytes: &[u8]) -> Option<((u32, CancelEffect), &[u8])>
 
 /// A policy, and what it was set to.
 pub fn split_policy(bytes: &[u8]) -> Option<(Message, &[u8])>
-    ensures { MatchOption result (IsUnread message_text FitsMessage (codes " policy " ++ bytes.now)) (λ r. IsRead message_text FitsMessage (codes " policy " ++ bytes.now) r.0 r.1.now) }
+    ensures { MatchOption result (IsUnread message_text FitsMessage (codes " policy " ++ bytes.now))
+        (λ r. IsRead message_text FitsMessage (codes " policy " ++ bytes.now) r.0 r.1.now) }
 {
     let Some((which, rest)) = split_which(bytes) else {
         return None;
@@ -132,7 +138,9 @@ pub fn split_policy(bytes: &[u8]) -> Option<(Message, &[u8])>
 
 /// How far the executor is.
 pub fn split_ask(bytes: &[u8]) -> Option<(Message, &[u8])>
-    ensures { MatchOption result (IsUnread message_text FitsMessage (codes " ask queue " ++ bytes.now)) (λ r. IsRead message_text FitsMessage (codes " ask queue " ++ bytes.now) r.0 r.1.now) }
+    ensures { MatchOption result
+        (IsUnread message_text FitsMessage (codes " ask queue " ++ bytes.now))
+        (λ r. IsRead message_text FitsMessage (codes " ask queue " ++ bytes.now) r.0 r.1.now) }
 {
     let Some((queue, rest)) = code_before(bytes, b" running ") else {
         return None;
@@ -159,7 +167,9 @@ pub fn split_ask(bytes: &[u8]) -> Option<(Message, &[u8])>
 
 /// The executor was shut, or was shut before, or was shut at once.
 pub fn split_shutdown(bytes: &[u8]) -> Option<(Message, &[u8])>
-    ensures { MatchOption result (IsUnread message_text FitsMessage (codes " shutdown" ++ bytes.now)) (λ r. IsRead message_text FitsMessage (codes " shutdown" ++ bytes.now) r.0 r.1.now) }
+    ensures { MatchOption result
+        (IsUnread message_text FitsMessage (codes " shutdown" ++ bytes.now))
+        (λ r. IsRead message_text FitsMessage (codes " shutdown" ++ bytes.now) r.0 r.1.now) }
 {
     if let Some(rest) = strip(bytes, b"\n") {
         return Some((Message::Answer(Answer::Shutdown), rest));

@@ -21,7 +21,8 @@ pub const ANSWER_ROOM: usize = 108;
 pub fn put_submit(buffer: &mut [u8], at: usize, task: u32, kind: Kind, due: u64) -> usize
     requires { at + ANSWER_ROOM ≤ length buffer.old }
     ensures end { result ≤ at + ANSWER_ROOM }
-    ensures put { Puts (take at buffer.old) (take result buffer.new) (answer_text (a.Submit task kind due)) }
+    ensures put { Puts (take at buffer.old) (take result buffer.new)
+        (answer_text (a.Submit task kind due)) }
 {
     let at = put_text(buffer, at, *b" submit ");
     let at = put_number(buffer, at, task as u64);
@@ -35,7 +36,8 @@ pub fn put_submit(buffer: &mut [u8], at: usize, task: u32, kind: Kind, due: u64)
 pub fn put_refuse(buffer: &mut [u8], at: usize, task: u32, refusal: Refusal) -> usize
     requires { at + ANSWER_ROOM ≤ length buffer.old }
     ensures end { result ≤ at + ANSWER_ROOM }
-    ensures put { Puts (take at buffer.old) (take result buffer.new) (answer_text (a.Refuse task refusal)) }
+    ensures put { Puts (take at buffer.old) (take result buffer.new)
+        (answer_text (a.Refuse task refusal)) }
 {
     let at = put_text(buffer, at, *b" refuse ");
     let at = put_number(buffer, at, task as u64);
@@ -61,7 +63,8 @@ pub fn put_effect(buffer: &mut [u8], at: usize, task: u32, effect: CancelEffect)
 pub fn put_policy(buffer: &mut [u8], at: usize, which: Which, value: bool) -> usize
     requires { at + ANSWER_ROOM ≤ length buffer.old }
     ensures end { result ≤ at + ANSWER_ROOM }
-    ensures put { Puts (take at buffer.old) (take result buffer.new) (answer_text (a.Policy which value)) }
+    ensures put { Puts (take at buffer.old) (take result buffer.new)
+        (answer_text (a.Policy which value)) }
 {
     let at = put_text(buffer, at, *b" policy ");
     let at = put_policy_text(buffer, at, which);
@@ -80,7 +83,8 @@ pub fn put_ask(
 ) -> usize
     requires { at + ANSWER_ROOM ≤ length buffer.old }
     ensures end { result ≤ at + ANSWER_ROOM }
-    ensures put { Puts (take at buffer.old) (take result buffer.new) (answer_text (a.Ask queue running shutdown terminated)) }
+    ensures put { Puts (take at buffer.old) (take result buffer.new)
+        (answer_text (a.Ask queue running shutdown terminated)) }
 {
     let at = put_text(buffer, at, *b" ask queue ");
     let at = put_number(buffer, at, queue as u64);
@@ -90,12 +94,31 @@ pub fn put_ask(
     put_terminated(buffer, at, terminated)
 }
 
-/// Puts a worker that starts a run.
-#[inline(always)]
+/// Puts a worker that starts a run: by a call, which keeps small what one line in a while is put by.
+#[inline(never)]
 pub fn put_start(buffer: &mut [u8], at: usize, worker: u8, task: u32, run: u64, due: u64) -> usize
     requires { at + ANSWER_ROOM ≤ length buffer.old }
     ensures end { result ≤ at + ANSWER_ROOM }
-    ensures put { Puts (take at buffer.old) (take result buffer.new) (answer_text (a.Start worker task run due)) }
+    ensures put { Puts (take at buffer.old) (take result buffer.new)
+        (answer_text (a.Start worker task run due)) }
+{
+    put_start_here(buffer, at, worker, task, run, due)
+}
+
+/// Puts a worker that starts a run, where it is called: for a loop over many lines.
+#[inline(always)]
+pub fn put_start_here(
+    buffer: &mut [u8],
+    at: usize,
+    worker: u8,
+    task: u32,
+    run: u64,
+    due: u64,
+) -> usize
+    requires { at + ANSWER_ROOM ≤ length buffer.old }
+    ensures end { result ≤ at + ANSWER_ROOM }
+    ensures put { Puts (take at buffer.old) (take result buffer.new)
+        (answer_text (a.Start worker task run due)) }
 {
     let at = put_text(buffer, at, *b" start ");
     let at = put_number(buffer, at, worker as u64);
@@ -124,7 +147,8 @@ pub fn put_idle(buffer: &mut [u8], at: usize, worker: u8) -> usize
 pub fn put_done(buffer: &mut [u8], at: usize, worker: u8, task: u32, run: u64, value: u64) -> usize
     requires { at + ANSWER_ROOM ≤ length buffer.old }
     ensures end { result ≤ at + ANSWER_ROOM }
-    ensures put { Puts (take at buffer.old) (take result buffer.new) (answer_text (a.Finish worker task run (o.Done value))) }
+    ensures put { Puts (take at buffer.old) (take result buffer.new)
+        (answer_text (a.Finish worker task run (o.Done value))) }
 {
     let at = put_text(buffer, at, *b" finish ");
     let at = put_number(buffer, at, worker as u64);
@@ -142,7 +166,8 @@ pub fn put_done(buffer: &mut [u8], at: usize, worker: u8, task: u32, run: u64, v
 pub fn put_again(buffer: &mut [u8], at: usize, worker: u8, task: u32, run: u64, due: u64) -> usize
     requires { at + ANSWER_ROOM ≤ length buffer.old }
     ensures end { result ≤ at + ANSWER_ROOM }
-    ensures put { Puts (take at buffer.old) (take result buffer.new) (answer_text (a.Finish worker task run (o.Again due))) }
+    ensures put { Puts (take at buffer.old) (take result buffer.new)
+        (answer_text (a.Finish worker task run (o.Again due))) }
 {
     let at = put_text(buffer, at, *b" finish ");
     let at = put_number(buffer, at, worker as u64);
@@ -167,7 +192,8 @@ pub fn put_finish(
 ) -> usize
     requires { at + ANSWER_ROOM ≤ length buffer.old }
     ensures end { result ≤ at + ANSWER_ROOM }
-    ensures put { Puts (take at buffer.old) (take result buffer.new) (answer_text (a.Finish worker task run outcome)) }
+    ensures put { Puts (take at buffer.old) (take result buffer.new)
+        (answer_text (a.Finish worker task run outcome)) }
 {
     let at = put_text(buffer, at, *b" finish ");
     let at = put_number(buffer, at, worker as u64);
@@ -223,7 +249,8 @@ pub fn put_error(buffer: &mut [u8], at: usize, error: EventError) -> usize
 fn put_kind(buffer: &mut [u8], at: usize, kind: Kind) -> usize
     requires { at + 20 ≤ length buffer.old }
     ensures end { result ≤ at + 20 }
-    ensures put { Puts (take at buffer.old) (take result buffer.new) (codes " " ++ (kind_text kind ++ codes " due ")) }
+    ensures put { Puts (take at buffer.old) (take result buffer.new)
+        (codes " " ++ (kind_text kind ++ codes " due ")) }
 {
     match kind {
         Kind::Schedule => put_text(buffer, at, *b" schedule due "),
@@ -295,7 +322,8 @@ fn put_policy_text(buffer: &mut [u8], at: usize, which: Which) -> usize
 fn put_truth(buffer: &mut [u8], at: usize, value: bool) -> usize
     requires { at + 10 ≤ length buffer.old }
     ensures end { result ≤ at + 10 }
-    ensures put { Puts (take at buffer.old) (take result buffer.new) (codes " " ++ (truth_text value ++ codes "\n")) }
+    ensures put { Puts (take at buffer.old) (take result buffer.new)
+        (codes " " ++ (truth_text value ++ codes "\n")) }
 {
     if value {
         put_text(buffer, at, *b" true\n")
@@ -309,7 +337,8 @@ fn put_truth(buffer: &mut [u8], at: usize, value: bool) -> usize
 fn put_shutdown(buffer: &mut [u8], at: usize, shutdown: bool) -> usize
     requires { at + 30 ≤ length buffer.old }
     ensures end { result ≤ at + 30 }
-    ensures put { Puts (take at buffer.old) (take result buffer.new) (codes " shutdown " ++ (whether_text shutdown ++ codes " terminated ")) }
+    ensures put { Puts (take at buffer.old) (take result buffer.new)
+        (codes " shutdown " ++ (whether_text shutdown ++ codes " terminated ")) }
 {
     if shutdown {
         put_text(buffer, at, *b" shutdown yes terminated ")
@@ -323,7 +352,8 @@ fn put_shutdown(buffer: &mut [u8], at: usize, shutdown: bool) -> usize
 fn put_terminated(buffer: &mut [u8], at: usize, terminated: bool) -> usize
     requires { at + 10 ≤ length buffer.old }
     ensures end { result ≤ at + 10 }
-    ensures put { Puts (take at buffer.old) (take result buffer.new) (whether_text terminated ++ codes "\n") }
+    ensures put { Puts (take at buffer.old) (take result buffer.new)
+        (whether_text terminated ++ codes "\n") }
 {
     if terminated {
         put_text(buffer, at, *b"yes\n")

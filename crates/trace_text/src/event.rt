@@ -25,7 +25,8 @@ pub fn read_event(line: &[u8]) -> Option<Event>
 /// stands there; the limits of its numbers are those of [`read_event`].
 #[inline(always)]
 pub fn split_event(bytes: &[u8]) -> Option<(Event, &[u8])>
-    ensures { MatchOption result (IsUnread event_line FitsEvent bytes.now) (λ r. IsRead event_line FitsEvent bytes.now r.0 r.1.now) }
+    ensures { MatchOption result (IsUnread event_line FitsEvent bytes.now)
+        (λ r. IsRead event_line FitsEvent bytes.now r.0 r.1.now) }
 {
     if let Some(rest) = strip_word(bytes, *b"start ") {
         let Some((worker, rest)) = last_worker(rest) else {
@@ -54,7 +55,8 @@ pub fn split_event(bytes: &[u8]) -> Option<(Event, &[u8])>
 /// The event of a line that begins with `finish `, of which these bytes are what follows.
 #[inline(always)]
 fn split_finish(bytes: &[u8]) -> Option<(Event, &[u8])>
-    ensures { MatchOption result (IsUnread event_line FitsEvent (codes "finish " ++ bytes.now)) (λ r. IsRead event_line FitsEvent (codes "finish " ++ bytes.now) r.0 r.1.now) }
+    ensures { MatchOption result (IsUnread event_line FitsEvent (codes "finish " ++ bytes.now))
+        (λ r. IsRead event_line FitsEvent (codes "finish " ++ bytes.now) r.0 r.1.now) }
 {
     let Some((number, rest)) = split_number(bytes) else {
         return None;
@@ -71,7 +73,8 @@ fn split_finish(bytes: &[u8]) -> Option<(Event, &[u8])>
 /// How a run ended, to the newline, and what follows it.
 #[inline(always)]
 fn split_ending(bytes: &[u8]) -> Option<(Ending, &[u8])>
-    ensures { MatchOption result (IsUnread ending_line FitsEnding bytes.now) (λ r. IsRead ending_line FitsEnding bytes.now r.0 r.1.now) }
+    ensures { MatchOption result (IsUnread ending_line FitsEnding bytes.now)
+        (λ r. IsRead ending_line FitsEnding bytes.now r.0 r.1.now) }
 {
     if let Some(rest) = strip_word(bytes, *b" ok ") {
         let Some((value, rest)) = last_number(rest) else {
@@ -92,7 +95,8 @@ fn split_ending(bytes: &[u8]) -> Option<(Ending, &[u8])>
 /// are not there.
 #[inline(always)]
 fn last_number(bytes: &[u8]) -> Option<(u64, &[u8])>
-    ensures { MatchOption result (IsUnread (number_then (codes "\n")) (Below (2 ^ 64)) bytes.now) (λ r. IsRead (number_then (codes "\n")) (Below (2 ^ 64)) bytes.now r.0 r.1.now) }
+    ensures { MatchOption result (IsUnread (number_then (codes "\n")) (Below (2 ^ 64)) bytes.now)
+        (λ r. IsRead (number_then (codes "\n")) (Below (2 ^ 64)) bytes.now r.0 r.1.now) }
 {
     let Some((number, rest)) = split_number(bytes) else {
         return None;
@@ -107,7 +111,8 @@ fn last_number(bytes: &[u8]) -> Option<(u64, &[u8])>
 /// are not there.
 #[inline(always)]
 fn last_code(bytes: &[u8]) -> Option<(u32, &[u8])>
-    ensures { MatchOption result (IsUnread (number_then (codes "\n")) (Below (2 ^ 32)) bytes.now) (λ r. IsRead (number_then (codes "\n")) (Below (2 ^ 32)) bytes.now r.0 r.1.now) }
+    ensures { MatchOption result (IsUnread (number_then (codes "\n")) (Below (2 ^ 32)) bytes.now)
+        (λ r. IsRead (number_then (codes "\n")) (Below (2 ^ 32)) bytes.now r.0 r.1.now) }
 {
     let Some((number, rest)) = last_number(bytes) else {
         return None;
@@ -122,7 +127,8 @@ fn last_code(bytes: &[u8]) -> Option<(u32, &[u8])>
 /// are not there.
 #[inline(always)]
 fn last_worker(bytes: &[u8]) -> Option<(u8, &[u8])>
-    ensures { MatchOption result (IsUnread (number_then (codes "\n")) (Below (2 ^ 8)) bytes.now) (λ r. IsRead (number_then (codes "\n")) (Below (2 ^ 8)) bytes.now r.0 r.1.now) }
+    ensures { MatchOption result (IsUnread (number_then (codes "\n")) (Below (2 ^ 8)) bytes.now)
+        (λ r. IsRead (number_then (codes "\n")) (Below (2 ^ 8)) bytes.now r.0 r.1.now) }
 {
     let Some((number, rest)) = last_number(bytes) else {
         return None;

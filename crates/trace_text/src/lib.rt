@@ -108,7 +108,7 @@ pub use laws::{
     lines_are_one, lines_end_once, most_event_bytes_is_the_limit, text_error_equality_tells,
 };
 pub use line::{read_line, split_line};
-pub use line_text::{LINE_ROOM, put_line, write_line};
+pub use line_text::{LINE_ROOM, put_line, put_line_here, write_line};
 pub use scan::{code_before, number_before, strip_word};
 pub use stamp::Stamp;
 pub use text_error::TextError;

@@ -27,7 +27,8 @@ pub fn read_line(line: &[u8]) -> Option<Line>
 /// line's text stands there; the limits of its numbers are those of [`read_line`].
 #[inline]
 pub fn split_line(bytes: &[u8]) -> Option<(Line, &[u8])>
-    ensures { MatchOption result (IsUnread line_text FitsLine bytes.now) (λ r. IsRead line_text FitsLine bytes.now r.0 r.1.now) }
+    ensures { MatchOption result (IsUnread line_text FitsLine bytes.now)
+        (λ r. IsRead line_text FitsLine bytes.now r.0 r.1.now) }
 {
     let Some((moment, rest)) = split_number_by_loop(bytes) else {
         return None;

@@ -3,7 +3,7 @@ ghost use Rattle.std.specs.Prelude.{◌≡◌, ◌+◌, ◌≤◌, ◌<◌, ◌+
 ghost use Rattle.trace_text.specs.Spelling.{line_text};
 ghost use Rattle.trace_text.specs.Writing.{Puts};
 
-use crate::message_text::put_said;
+use crate::message_text::{put_said, put_said_here};
 use crate::stamp::Stamp;
 use crate::text_error::TextError;
 use executor_core::Line;
@@ -76,9 +76,21 @@ pub fn put_line(buffer: &mut [u8], at: usize, stamp: &mut Stamp, line: &Line) ->
     ensures put { Puts (take at buffer.old) (take result buffer.new) (line_text line.now) }
     ensures stamp { stamp.new ≡ line.now.moment }
 {
-    stamp.turn_to(line.moment());
-    let at = stamp.put(buffer, at);
+    let at = stamp.put_moment(buffer, at, line.moment());
     put_said(buffer, at, line.said())
+}
+
+/// As [`put_line`], for a loop over many lines: what starts is put where this is called, so that a line takes fewer steps and
+/// the loop more bytes of code.
+#[inline(always)]
+pub fn put_line_here(buffer: &mut [u8], at: usize, stamp: &mut Stamp, line: &Line) -> usize
+    requires { at + LINE_ROOM ≤ length buffer.old }
+    ensures end { result ≤ at + LINE_ROOM }
+    ensures put { Puts (take at buffer.old) (take result buffer.new) (line_text line.now) }
+    ensures stamp { stamp.new ≡ line.now.moment }
+{
+    let at = stamp.put_moment(buffer, at, line.moment());
+    put_said_here(buffer, at, line.said())
 }
 
 #[cfg(test)]

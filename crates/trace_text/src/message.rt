@@ -15,7 +15,8 @@ use executor_core::{Answer, Message};
 /// stand in a trace most often are looked for first.
 #[inline(always)]
 pub fn split_message(bytes: &[u8]) -> Option<(Message, &[u8])>
-    ensures { MatchOption result (IsUnread message_text FitsMessage bytes.now) (λ r. IsRead message_text FitsMessage bytes.now r.0 r.1.now) }
+    ensures { MatchOption result (IsUnread message_text FitsMessage bytes.now)
+        (λ r. IsRead message_text FitsMessage bytes.now r.0 r.1.now) }
 {
     if let Some(rest) = strip_word(bytes, *b" start ") {
         return split_start(rest);
@@ -61,7 +62,8 @@ pub fn split_message(bytes: &[u8]) -> Option<(Message, &[u8])>
 /// The end of the task that stands at the front, and what follows its newline.
 #[inline(always)]
 fn split_end(bytes: &[u8]) -> Option<(Message, &[u8])>
-    ensures { MatchOption result (IsUnread message_text FitsMessage (codes " end " ++ bytes.now)) (λ r. IsRead message_text FitsMessage (codes " end " ++ bytes.now) r.0 r.1.now) }
+    ensures { MatchOption result (IsUnread message_text FitsMessage (codes " end " ++ bytes.now))
+        (λ r. IsRead message_text FitsMessage (codes " end " ++ bytes.now) r.0 r.1.now) }
 {
     let (task, rest) = code_before(bytes, b"\n")?;
     Some((Message::End(task), rest))

@@ -1,28 +1,29 @@
 //! The text of what a line of a trace says, as it stands behind the line's moment, with the newline.
-ghost use Rattle.std.specs.Prelude.{◌≡◌, ℕ, ◌+◌, ◌≤◌, length, take};
+ghost use Rattle.std.specs.Prelude.{◌≡◌, ℕ, ◌+◌, ◌≤◌, length, take, false};
 ghost use Rattle.trace_text.specs.Spelling.{message_text};
 ghost use Rattle.trace_text.specs.Writing.{Puts};
+ghost use Rattle.trace_text.specs.own.Messages.{is_common};
 ghost use Rattle.executor_core.specs.declared.Message.TheVariants as m;
 ghost use Rattle.executor_core.specs.Said.{message_of};
 
 use crate::answer_text::{
     ANSWER_ROOM, put_again, put_ask, put_done, put_effect, put_error, put_finish, put_idle,
-    put_policy, put_refuse, put_start, put_submit,
+    put_policy, put_refuse, put_start, put_start_here, put_submit,
 };
 use crate::put::{put_number, put_text};
 use executor_core::{Outcome, Said};
 
 /// Puts what a line says at a place of a buffer, and returns where it ends: at most [`ANSWER_ROOM`] bytes on, which have to be
-/// there.
+/// there. What most lines say is put here, all else by a call: the compiler keeps no more than this in one place.
 #[inline(always)]
 pub fn put_said(buffer: &mut [u8], at: usize, said: Said) -> usize
     requires { at + ANSWER_ROOM ≤ length buffer.old }
     ensures end { result ≤ at + ANSWER_ROOM }
-    ensures put { Puts (take at buffer.old) (take result buffer.new) (message_text (message_of said)) }
+    ensures put { Puts (take at buffer.old) (take result buffer.new)
+        (message_text (message_of said)) }
 {
     match said {
         Said::Submit { kind, task, due } => put_submit(buffer, at, task, kind, due),
-        Said::Refuse { refusal, task } => put_refuse(buffer, at, task, refusal),
         Said::Cancel { effect, task } => {
             let at = put_text(buffer, at, *b" cancel ");
             put_effect(buffer, at, task, effect)
@@ -31,16 +32,6 @@ pub fn put_said(buffer: &mut [u8], at: usize, said: Said) -> usize
             let at = put_text(buffer, at, *b" outside ");
             put_effect(buffer, at, task, effect)
         }
-        Said::Policy { which, value } => put_policy(buffer, at, which, value),
-        Said::Shutdown => put_text(buffer, at, *b" shutdown\n"),
-        Said::ShutdownAgain => put_text(buffer, at, *b" shutdown again\n"),
-        Said::ShutdownNow => put_text(buffer, at, *b" shutdown now\n"),
-        Said::Ask {
-            shutdown,
-            terminated,
-            queue,
-            running,
-        } => put_ask(buffer, at, queue, running, shutdown, terminated),
         Said::Clock => put_text(buffer, at, *b" clock\n"),
         Said::Start {
             worker,
@@ -55,26 +46,79 @@ pub fn put_said(buffer: &mut [u8], at: usize, said: Said) -> usize
             run,
             value,
         } => put_done(buffer, at, worker, task, run, value),
-        Said::Failed {
-            worker,
-            task,
-            run,
-            code,
-        } => put_finish(buffer, at, worker, task, run, Outcome::Failed(code)),
         Said::Again {
             worker,
             task,
             run,
             due,
         } => put_again(buffer, at, worker, task, run, due),
+        Said::Error(error) => put_error(buffer, at, error),
+        rare => put_rare(buffer, at, rare),
+    }
+}
+
+/// As [`put_said`], with a start put where it is called: for a loop over many lines.
+#[inline(always)]
+pub fn put_said_here(buffer: &mut [u8], at: usize, said: Said) -> usize
+    requires { at + ANSWER_ROOM ≤ length buffer.old }
+    ensures end { result ≤ at + ANSWER_ROOM }
+    ensures put { Puts (take at buffer.old) (take result buffer.new)
+        (message_text (message_of said)) }
+{
+    match said {
+        Said::Start {
+            worker,
+            task,
+            run,
+            due,
+        } => put_start_here(buffer, at, worker, task, run, due),
+        other => put_said(buffer, at, other),
+    }
+}
+
+/// Puts what few lines say.
+#[inline(never)]
+fn put_rare(buffer: &mut [u8], at: usize, said: Said) -> usize
+    requires rare { is_common said ≡ false }
+    requires room { at + ANSWER_ROOM ≤ length buffer.old }
+    ensures end { result ≤ at + ANSWER_ROOM }
+    ensures put { Puts (take at buffer.old) (take result buffer.new)
+        (message_text (message_of said)) }
+{
+    match said {
+        Said::Refuse { refusal, task } => put_refuse(buffer, at, task, refusal),
+        Said::Policy { which, value } => put_policy(buffer, at, which, value),
+        Said::Shutdown => put_text(buffer, at, *b" shutdown\n"),
+        Said::ShutdownAgain => put_text(buffer, at, *b" shutdown again\n"),
+        Said::ShutdownNow => put_text(buffer, at, *b" shutdown now\n"),
+        Said::Ask {
+            shutdown,
+            terminated,
+            queue,
+            running,
+        } => put_ask(buffer, at, queue, running, shutdown, terminated),
+        Said::Failed {
+            worker,
+            task,
+            run,
+            code,
+        } => put_finish(buffer, at, worker, task, run, Outcome::Failed(code)),
         Said::Dropped { worker, task, run } => {
             put_finish(buffer, at, worker, task, run, Outcome::Dropped)
         }
         Said::Ended { worker, task, run } => {
             put_finish(buffer, at, worker, task, run, Outcome::Ended)
         }
-        Said::Error(error) => put_error(buffer, at, error),
         Said::End(task) => put_end(buffer, at, task),
+        Said::Submit { .. }
+        | Said::Cancel { .. }
+        | Said::Outside { .. }
+        | Said::Clock
+        | Said::Start { .. }
+        | Said::Idle { .. }
+        | Said::Done { .. }
+        | Said::Again { .. }
+        | Said::Error(_) => unreachable!(),
     }
 }
 

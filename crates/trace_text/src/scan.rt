@@ -11,7 +11,8 @@ const ZERO: u64 = b'0' as u64;
 /// What follows `word` at the front of `bytes`. `None` exactly when `bytes` does not begin with it.
 #[inline(always)]
 pub fn strip<'a>(bytes: &'a [u8], word: &[u8]) -> Option<&'a [u8]>
-    ensures { MatchOption result ((rest : List ℕ) → bytes.now ≢ word.now ++ rest) (λ rest. bytes.now ≡ word.now ++ rest.now) }
+    ensures { MatchOption result ((rest : List ℕ) → bytes.now ≢ word.now ++ rest)
+        (λ rest. bytes.now ≡ word.now ++ rest.now) }
 {
     bytes.strip_prefix(word)
 }
@@ -21,7 +22,8 @@ pub fn strip<'a>(bytes: &'a [u8], word: &[u8]) -> Option<&'a [u8]>
 #[inline(always)]
 pub fn strip_word<const N: usize>(bytes: &[u8], word: [u8; N]) -> Option<&[u8]>
     requires { 4 ≤ N }
-    ensures { MatchOption result ((rest : List ℕ) → bytes.now ≢ word.entry ++ rest) (λ rest. bytes.now ≡ word.entry ++ rest.now) }
+    ensures { MatchOption result ((rest : List ℕ) → bytes.now ≢ word.entry ++ rest)
+        (λ rest. bytes.now ≡ word.entry ++ rest.now) }
 {
     if bytes.len() < N {
         return None;
@@ -152,7 +154,8 @@ fn has_digit_at(bytes: &[u8], at: usize) -> bool
 pub fn number_before<'a>(bytes: &'a [u8], word: &[u8]) -> Option<(u64, &'a [u8])>
     requires plain { EndsNumber word.now }
     requires some { 0 < length word.now }
-    ensures { MatchOption result (IsUnread (number_then word.now) (Below (2 ^ 64)) bytes.now) (λ r. IsRead (number_then word.now) (Below (2 ^ 64)) bytes.now r.0 r.1.now) }
+    ensures { MatchOption result (IsUnread (number_then word.now) (Below (2 ^ 64)) bytes.now)
+        (λ r. IsRead (number_then word.now) (Below (2 ^ 64)) bytes.now r.0 r.1.now) }
 {
     let Some((number, rest)) = split_number_by_loop(bytes) else {
         return None;
@@ -168,7 +171,8 @@ pub fn number_before<'a>(bytes: &'a [u8], word: &[u8]) -> Option<(u64, &'a [u8])
 pub fn code_before<'a>(bytes: &'a [u8], word: &[u8]) -> Option<(u32, &'a [u8])>
     requires plain { EndsNumber word.now }
     requires some { 0 < length word.now }
-    ensures { MatchOption result (IsUnread (number_then word.now) (Below (2 ^ 32)) bytes.now) (λ r. IsRead (number_then word.now) (Below (2 ^ 32)) bytes.now r.0 r.1.now) }
+    ensures { MatchOption result (IsUnread (number_then word.now) (Below (2 ^ 32)) bytes.now)
+        (λ r. IsRead (number_then word.now) (Below (2 ^ 32)) bytes.now r.0 r.1.now) }
 {
     let Some((number, rest)) = number_before(bytes, word) else {
         return None;
@@ -184,7 +188,8 @@ pub fn code_before<'a>(bytes: &'a [u8], word: &[u8]) -> Option<(u32, &'a [u8])>
 pub fn worker_before<'a>(bytes: &'a [u8], word: &[u8]) -> Option<(u8, &'a [u8])>
     requires plain { EndsNumber word.now }
     requires some { 0 < length word.now }
-    ensures { MatchOption result (IsUnread (number_then word.now) (Below (2 ^ 8)) bytes.now) (λ r. IsRead (number_then word.now) (Below (2 ^ 8)) bytes.now r.0 r.1.now) }
+    ensures { MatchOption result (IsUnread (number_then word.now) (Below (2 ^ 8)) bytes.now)
+        (λ r. IsRead (number_then word.now) (Below (2 ^ 8)) bytes.now r.0 r.1.now) }
 {
     let Some((number, rest)) = number_before(bytes, word) else {
         return None;

@@ -45,7 +45,7 @@ impl Stamp {
 
     /// Changes to another moment, where it is another.
     #[inline(always)]
-    pub(crate) fn turn_to(&mut self, moment: u64)
+    fn turn_to(&mut self, moment: u64)
         ensures { self.new ≡ moment }
     {
         if self.moment != moment {
@@ -54,10 +54,22 @@ impl Stamp {
         }
     }
 
+    /// Changes to this moment, and puts its digits as [`Stamp::put`] does.
+    #[inline(always)]
+    pub(crate) fn put_moment(&mut self, buffer: &mut [u8], at: usize, moment: u64) -> usize
+        requires { at + 24 ≤ length buffer.old }
+        ensures end { result ≤ at + 20 }
+        ensures put { Puts (take at buffer.old) (take result buffer.new) (decimal moment) }
+        ensures stamp { self.new ≡ moment }
+    {
+        self.turn_to(moment);
+        self.put(buffer, at)
+    }
+
     /// Puts the digits of the moment at `at`, and returns where they end. There has to be room for 24 bytes, however many there
     /// are.
     #[inline(always)]
-    pub(crate) fn put(&self, buffer: &mut [u8], at: usize) -> usize
+    fn put(&self, buffer: &mut [u8], at: usize) -> usize
         requires { at + 24 ≤ length buffer.old }
         ensures end { result ≤ at + 20 }
         ensures put { Puts (take at buffer.old) (take result buffer.new) (decimal self.now) }

@@ -18,7 +18,8 @@ pub const REMOVE: [u8; 6] = *b"remove";
 /// What a finished run led to, of which these bytes follow the space, to the newline, and what follows it.
 #[inline(always)]
 pub fn split_outcome(bytes: &[u8]) -> Option<(Outcome, &[u8])>
-    ensures { MatchOption result (IsUnread outcome_text FitsOutcome (codes " " ++ bytes.now)) (λ r. IsRead outcome_text FitsOutcome (codes " " ++ bytes.now) r.0 r.1.now) }
+    ensures { MatchOption result (IsUnread outcome_text FitsOutcome (codes " " ++ bytes.now))
+        (λ r. IsRead outcome_text FitsOutcome (codes " " ++ bytes.now) r.0 r.1.now) }
 {
     if let Some(rest) = strip_word(bytes, *b"done ") {
         let Some((value, rest)) = number_before(rest, b"\n") else {
@@ -50,7 +51,8 @@ pub fn split_outcome(bytes: &[u8]) -> Option<(Outcome, &[u8])>
 /// The kind of a task, to ` due `, and what follows that.
 #[inline(always)]
 pub fn split_kind(bytes: &[u8]) -> Option<(Kind, &[u8])>
-    ensures { MatchOption result (IsUnread (text_then kind_text (codes " due ")) Any bytes.now) (λ r. IsRead (text_then kind_text (codes " due ")) Any bytes.now r.0 r.1.now) }
+    ensures { MatchOption result (IsUnread (text_then kind_text (codes " due ")) Any bytes.now)
+        (λ r. IsRead (text_then kind_text (codes " due ")) Any bytes.now r.0 r.1.now) }
 {
     if let Some(rest) = strip_word(bytes, *b"schedule due ") {
         return Some((Kind::Schedule, rest));
@@ -66,7 +68,8 @@ pub fn split_kind(bytes: &[u8]) -> Option<(Kind, &[u8])>
 
 /// Why a task was refused, to the newline, and what follows it.
 pub fn split_refusal(bytes: &[u8]) -> Option<(Refusal, &[u8])>
-    ensures { MatchOption result (IsUnread (text_then refusal_text (codes "\n")) Any bytes.now) (λ r. IsRead (text_then refusal_text (codes "\n")) Any bytes.now r.0 r.1.now) }
+    ensures { MatchOption result (IsUnread (text_then refusal_text (codes "\n")) Any bytes.now)
+        (λ r. IsRead (text_then refusal_text (codes "\n")) Any bytes.now r.0 r.1.now) }
 {
     if let Some(rest) = strip_word(bytes, *b"illegal\n") {
         return Some((Refusal::Illegal, rest));
@@ -79,7 +82,8 @@ pub fn split_refusal(bytes: &[u8]) -> Option<(Refusal, &[u8])>
 
 /// What a cancel did, to the newline, and what follows it.
 pub fn split_effect(bytes: &[u8]) -> Option<(CancelEffect, &[u8])>
-    ensures { MatchOption result (IsUnread (text_then effect_text (codes "\n")) Any bytes.now) (λ r. IsRead (text_then effect_text (codes "\n")) Any bytes.now r.0 r.1.now) }
+    ensures { MatchOption result (IsUnread (text_then effect_text (codes "\n")) Any bytes.now)
+        (λ r. IsRead (text_then effect_text (codes "\n")) Any bytes.now r.0 r.1.now) }
 {
     if let Some(rest) = strip_word(bytes, *b"yes\n") {
         return Some((CancelEffect::Yes, rest));
@@ -95,7 +99,8 @@ pub fn split_effect(bytes: &[u8]) -> Option<(CancelEffect, &[u8])>
 
 /// A policy, to the space behind it, and what follows that. `None` exactly when they are not there.
 pub fn split_which(bytes: &[u8]) -> Option<(Which, &[u8])>
-    ensures { MatchOption result (IsUnread (text_then policy_text (codes " ")) Any bytes.now) (λ r. IsRead (text_then policy_text (codes " ")) Any bytes.now r.0 r.1.now) }
+    ensures { MatchOption result (IsUnread (text_then policy_text (codes " ")) Any bytes.now)
+        (λ r. IsRead (text_then policy_text (codes " ")) Any bytes.now r.0 r.1.now) }
 {
     let (which, rest) = split_policy_word(bytes)?;
     let rest = strip(rest, b" ")?;
@@ -104,7 +109,8 @@ pub fn split_which(bytes: &[u8]) -> Option<(Which, &[u8])>
 
 /// A policy, and what follows its word.
 fn split_policy_word(bytes: &[u8]) -> Option<(Which, &[u8])>
-    ensures { MatchOption result (IsUnread policy_text Any bytes.now) (λ r. IsRead policy_text Any bytes.now r.0 r.1.now) }
+    ensures { MatchOption result (IsUnread policy_text Any bytes.now)
+        (λ r. IsRead policy_text Any bytes.now r.0 r.1.now) }
 {
     if let Some(rest) = strip_word(bytes, CONTINUE) {
         return Some((Which::Continue, rest));
@@ -120,7 +126,8 @@ fn split_policy_word(bytes: &[u8]) -> Option<(Which, &[u8])>
 
 /// What a policy is set to, to the newline, and what follows it. `None` exactly when they are not there.
 pub fn split_truth(bytes: &[u8]) -> Option<(bool, &[u8])>
-    ensures { MatchOption result (IsUnread (text_then truth_text (codes "\n")) Any bytes.now) (λ r. IsRead (text_then truth_text (codes "\n")) Any bytes.now r.0 r.1.now) }
+    ensures { MatchOption result (IsUnread (text_then truth_text (codes "\n")) Any bytes.now)
+        (λ r. IsRead (text_then truth_text (codes "\n")) Any bytes.now r.0 r.1.now) }
 {
     if let Some(rest) = strip_word(bytes, *b"true\n") {
         return Some((true, rest));
@@ -133,7 +140,8 @@ pub fn split_truth(bytes: &[u8]) -> Option<(bool, &[u8])>
 
 /// Whether something is so, and what follows the word behind it.
 pub fn split_whether<'a>(bytes: &'a [u8], word: &[u8]) -> Option<(bool, &'a [u8])>
-    ensures { MatchOption result (IsUnread (text_then whether_text word.now) Any bytes.now) (λ r. IsRead (text_then whether_text word.now) Any bytes.now r.0 r.1.now) }
+    ensures { MatchOption result (IsUnread (text_then whether_text word.now) Any bytes.now)
+        (λ r. IsRead (text_then whether_text word.now) Any bytes.now r.0 r.1.now) }
 {
     if let Some(rest) = strip(bytes, b"yes") {
         let rest = strip(rest, word)?;
@@ -148,7 +156,8 @@ pub fn split_whether<'a>(bytes: &'a [u8], word: &[u8]) -> Option<(bool, &'a [u8]
 
 /// An event that had no effect, of which these bytes follow ` error `, to the newline, and what follows it.
 pub fn split_error(bytes: &[u8]) -> Option<(Message, &[u8])>
-    ensures { MatchOption result (IsUnread message_text FitsMessage (codes " error " ++ bytes.now)) (λ r. IsRead message_text FitsMessage (codes " error " ++ bytes.now) r.0 r.1.now) }
+    ensures { MatchOption result (IsUnread message_text FitsMessage (codes " error " ++ bytes.now))
+        (λ r. IsRead message_text FitsMessage (codes " error " ++ bytes.now) r.0 r.1.now) }
 {
     if let Some(rest) = strip_word(bytes, *b"busy\n") {
         return Some((Message::Answer(Answer::Error(EventError::Busy)), rest));

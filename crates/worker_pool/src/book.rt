@@ -77,10 +77,13 @@ impl<N: Named, A: HeapAllocator> Book<N, A> {
         requires seat { (seat.table ≡ shared.now.table) × (seat.view ≡ new_core shared.now.tasks) }
         requires tasks { shared.now.tasks ≡ task_count (calls_of code) }
         requires named { (calls_of code ≡ N.calls) × (workers ≡ N.workers) }
-        ensures opening { IfOk result (λ b. (b.happened ≡ []) × (b.lines ≡ []) × IsOpening b.core N.calls N.workers limit × (b.seat ≡ new_core (length N.cells))) }
+        ensures opening { IfOk result
+            (λ b. (b.happened ≡ []) × (b.lines ≡ []) × IsOpening b.core N.calls N.workers limit
+            × (b.seat ≡ new_core (length N.cells))) }
         ensures workers { IsErrOf result PoolError.Workers ↔ ¬ IsWorkerCount workers }
         ensures limit { IsErrOf result PoolError.Limit ↔ (IsWorkerCount workers × (limit ≡ 0)) }
-        ensures others { (IsErrOf result PoolError.Full → ⊥) × (IsErrOf result PoolError.Seats → ⊥) × (IsErrOf result PoolError.Running → ⊥) }
+        ensures others { (IsErrOf result PoolError.Full → ⊥) × (IsErrOf result PoolError.Seats → ⊥)
+            × (IsErrOf result PoolError.Running → ⊥) }
     {
         let _calls = code.calls();
         let count = shared.cells.len();
@@ -125,7 +128,9 @@ impl<N: Named, A: HeapAllocator> Book<N, A> {
         ensures full { IsErrOf result PoolError.Full ↔ (self.old.core.taken ≡ self.old.core.limit) }
         ensures others { IfErr result (λ e. (e ≡ PoolError.Full) ⊎ (e ≡ PoolError.Memory)) }
         ensures refused { OnErr result (self.new ≡ self.old) }
-        ensures applied { IfOk result (λ told. (did : Applies self.old self.new event) × Tells self.old self.new did.last told) }
+        ensures applied { IfOk result
+            (λ told. (did : Applies self.old self.new event)
+            × Tells self.old self.new did.last told) }
         ensures limit { self.new.core.limit ≡ self.old.core.limit }
     {
         let alloc = *self.notes.allocator();
@@ -162,9 +167,11 @@ impl<N: Named, A: HeapAllocator> Book<N, A> {
         ensures seats { IsErrOf result PoolError.Seats ↔ (self.old.seat.out ≡ most_handles) }
         ensures others { IfErr result (λ e. (e ≡ PoolError.Seats) ⊎ (e ≡ PoolError.Memory)) }
         ensures refused { OnErr result (self.new ≡ self.old) }
-        ensures admitted { OnOk result (self.new ≡ record self.old { seat = one_out self.old.seat }) }
+        ensures admitted { OnOk result
+            (self.new ≡ record self.old { seat = one_out self.old.seat }) }
         ensures handle { IfOk result (λ h. h.seat ≡ new_handle (length N.cells)) }
-        ensures notes { IfOk result (λ h. AreNotesOf h.notes N.cells × ((k : ℕ) → known_to h k ≡ None)) }
+        ensures notes { IfOk result
+            (λ h. AreNotesOf h.notes N.cells × ((k : ℕ) → known_to h k ≡ None)) }
     {
         if self.desk.seat.handles() >= MOST_HANDLES {
             return Err(PoolError::Seats);
@@ -195,7 +202,9 @@ impl<N: Named, A: Allocator> Book<N, A> {
         requires shared { (shared.now.table ≡ N.table) × (shared.now.cells ≡ N.cells) }
         ensures memory { IfErr result (λ e. e ≡ PoolError.Memory) }
         ensures refused { OnErr result (self.new ≡ self.old) }
-        ensures noted { IfOk result (λ count. (noted : List HistoryEntry) × OnlyNotes self.old self.new noted × (length noted ≡ count)) }
+        ensures noted { IfOk result
+            (λ count. (noted : List HistoryEntry) × OnlyNotes self.old self.new noted
+            × (length noted ≡ count)) }
         ensures known { OnOk result (KnowsCancels self.new) }
         ensures looked { OnOk result (AllAreLookedAt self.new) }
     {
@@ -242,9 +251,13 @@ impl<N: Named, A: Allocator> Book<N, A> {
     ) -> Option<Verdict>
         requires shared { (shared.now.table ≡ N.table) × (shared.now.cells ≡ N.cells) }
         ensures same { self.new ≡ self.old }
-        ensures both { IfSome result (λ v. (known_to handle.new task ≡ Some v) × (note : CellNote Put) × (slice_index_or self.new.notes task None ≡ Some note) × (note.known ≡ Some v)) }
+        ensures both { IfSome result
+            (λ v. (known_to handle.new task ≡ Some v) × (note : CellNote Put)
+            × (slice_index_or self.new.notes task None ≡ Some note) × (note.known ≡ Some v)) }
         ensures past { length N.cells ≤ task → result ≡ None }
-        ensures wherever { (note : CellNote Put) → slice_index_or self.old.notes task None ≡ Some note → IsSome (known_to handle.old task) → IsSome result }
+        ensures wherever { (note : CellNote Put)
+            → slice_index_or self.old.notes task None ≡ Some note
+            → IsSome (known_to handle.old task) → IsSome result }
         ensures keeps { StaysKnown (known_to handle.old task) (known_to handle.new task) }
         ensures others { (k : ℕ) → k ≢ task → known_to handle.new k ≡ known_to handle.old k }
         ensures notes { AreNotesOf handle.new.notes N.cells }
@@ -259,7 +272,8 @@ impl<N: Named, A: Allocator> Book<N, A> {
     pub fn happenings(&self) -> &[KeptHappening]
         ensures items { result.now ≡ self.now.happened }
         ensures book { IsBook N.cells self.now }
-        ensures named { (self.now.core.calls ≡ N.calls) × (workers_of self.now.core ≡ N.workers) × (self.now.table ≡ N.table) × (length N.cells ≡ task_count N.calls) }
+        ensures named { (self.now.core.calls ≡ N.calls) × (workers_of self.now.core ≡ N.workers)
+            × (self.now.table ≡ N.table) × (length N.cells ≡ task_count N.calls) }
     {
         &self.desk.happenings
     }
@@ -268,16 +282,20 @@ impl<N: Named, A: Allocator> Book<N, A> {
     pub fn lines(&self) -> &[Line]
         ensures items { result.now ≡ self.now.lines }
         ensures book { IsBook N.cells self.now }
-        ensures named { (self.now.core.calls ≡ N.calls) × (workers_of self.now.core ≡ N.workers) × (self.now.table ≡ N.table) × (length N.cells ≡ task_count N.calls) }
+        ensures named { (self.now.core.calls ≡ N.calls) × (workers_of self.now.core ≡ N.workers)
+            × (self.now.table ≡ N.table) × (length N.cells ≡ task_count N.calls) }
     {
         &self.desk.lines
     }
 
     /// Whether the due moment of some task that waits or is kept is reached.
     pub fn ripe(&self) -> bool
-        ensures ripe { IsTrue result ↔ IsRipe self.now.core.calls (view_of_state self.now.core.calls (state_of self.now.core)) }
+        ensures ripe { IsTrue result
+            ↔ IsRipe self.now.core.calls
+            (view_of_state self.now.core.calls (state_of self.now.core)) }
         ensures book { IsBook N.cells self.now }
-        ensures named { (self.now.core.calls ≡ N.calls) × (workers_of self.now.core ≡ N.workers) × (self.now.table ≡ N.table) × (length N.cells ≡ task_count N.calls) }
+        ensures named { (self.now.core.calls ≡ N.calls) × (workers_of self.now.core ≡ N.workers)
+            × (self.now.table ≡ N.table) × (length N.cells ≡ task_count N.calls) }
     {
         self.desk.core.ripe()
     }

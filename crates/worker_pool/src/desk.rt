@@ -36,7 +36,9 @@ impl<A: Allocator> Desk<A> {
         ensures seat { self.new.seat ≡ self.old.seat }
         ensures happenings { self.new.happenings.items ≡ self.old.happenings.items }
         ensures lines { self.new.lines.items ≡ self.old.lines.items }
-        ensures room { OnOk result (HasRoom self.new.core (vec_len self.new.lines) (vec_capacity self.new.lines) (vec_len self.new.happenings) (vec_capacity self.new.happenings)) }
+        ensures room { OnOk result
+            (HasRoom self.new.core (vec_len self.new.lines) (vec_capacity self.new.lines)
+            (vec_len self.new.happenings) (vec_capacity self.new.happenings)) }
     {
         let room = self.core.room();
         make_room(&mut self.happenings, room)?;
@@ -45,11 +47,17 @@ impl<A: Allocator> Desk<A> {
 
     /// Notes a cancel that the seat met: the core cancels the task from outside.
     fn note(&mut self, task: u32)
-        requires room { HasRoom self.old.core (vec_len self.old.lines) (vec_capacity self.old.lines) (vec_len self.old.happenings) (vec_capacity self.old.happenings) }
+        requires room { HasRoom self.old.core (vec_len self.old.lines) (vec_capacity self.old.lines)
+            (vec_len self.old.happenings) (vec_capacity self.old.happenings) }
         ensures seat { self.new.seat ≡ self.old.seat }
-        ensures notes { (v next : CoreSeatView) → IsKept self.old.core v self.old.happenings.items self.old.lines.items → WasMet (task_count self.old.core.calls) v next task
-            → IsKept self.new.core next self.new.happenings.items self.new.lines.items × Notes self.old.core self.new.core self.old.happenings.items self.new.happenings.items task
-            × HasRoom self.new.core (vec_len self.new.lines) (vec_capacity self.new.lines) (vec_len self.new.happenings) (vec_capacity self.new.happenings) }
+        ensures notes { (v next : CoreSeatView)
+            → IsKept self.old.core v self.old.happenings.items self.old.lines.items
+            → WasMet (task_count self.old.core.calls) v next task
+            → IsKept self.new.core next self.new.happenings.items self.new.lines.items
+            × Notes self.old.core self.new.core self.old.happenings.items
+            self.new.happenings.items task
+            × HasRoom self.new.core (vec_len self.new.lines) (vec_capacity self.new.lines)
+            (vec_len self.new.happenings) (vec_capacity self.new.happenings) }
     {
         self.core.cancel(task, &mut self.lines);
         self.happenings
@@ -62,19 +70,30 @@ impl<A: Allocator> Desk<A> {
     fn attempt(&mut self, words: &TaskWords<A>, happening: Happening) -> bool
         requires table { self.old.seat.table ≡ words.now.table }
         requires tasks { words.now.tasks ≡ task_count self.old.core.calls }
-        requires kept { IsKept self.old.core self.old.seat.view self.old.happenings.items self.old.lines.items }
+        requires kept { IsKept self.old.core self.old.seat.view self.old.happenings.items
+            self.old.lines.items }
         requires counted { IsCounted self.old.core }
         requires comes { Comes self.old.core happening }
-        requires room { HasRoom self.old.core (vec_len self.old.lines) (vec_capacity self.old.lines) (vec_len self.old.happenings) (vec_capacity self.old.happenings) }
+        requires room { HasRoom self.old.core (vec_len self.old.lines) (vec_capacity self.old.lines)
+            (vec_len self.old.happenings) (vec_capacity self.old.happenings) }
         ensures table { self.new.seat.table ≡ self.old.seat.table }
-        ensures kept { IsKept self.new.core self.new.seat.view self.new.happenings.items self.new.lines.items }
+        ensures kept { IsKept self.new.core self.new.seat.view self.new.happenings.items
+            self.new.lines.items }
         ensures same { SamePlan self.old.core self.new.core }
         ensures handles { OnlyOwnGrows self.old.seat.view self.new.seat.view }
-        ensures done { IsTrue result → Completes self.old.core.calls (workers_of self.old.core) self.old.seat.view.own self.new.seat.view.own (past_in self.old.core self.old.happenings.items) (past_in self.new.core self.new.happenings.items) (happening ∷ [])
+        ensures done { IsTrue result
+            → Completes self.old.core.calls (workers_of self.old.core) self.old.seat.view.own
+            self.new.seat.view.own (past_in self.old.core self.old.happenings.items)
+            (past_in self.new.core self.new.happenings.items) (happening ∷ [])
             × MovesOn self.old.core self.new.core happening }
-        ensures noted { result ≡ false → NotedFor self.old.core self.new.core self.old.happenings.items self.new.happenings.items happening × (self.new.seat.view.own ≡ self.old.seat.view.own) }
-        ensures more { (result ≡ false) ⊎ (is_call happening ≡ true) → IsCounted self.new.core × (room_of self.new.core + 1 ≤ room_of self.old.core)
-            × HasRoom self.new.core (vec_len self.new.lines) (vec_capacity self.new.lines) (vec_len self.new.happenings) (vec_capacity self.new.happenings) }
+        ensures noted { result ≡ false
+            → NotedFor self.old.core self.new.core self.old.happenings.items
+            self.new.happenings.items happening
+            × (self.new.seat.view.own ≡ self.old.seat.view.own) }
+        ensures more { (result ≡ false) ⊎ (is_call happening ≡ true)
+            → IsCounted self.new.core × (room_of self.new.core + 1 ≤ room_of self.old.core)
+            × HasRoom self.new.core (vec_len self.new.lines) (vec_capacity self.new.lines)
+            (vec_len self.new.happenings) (vec_capacity self.new.happenings) }
     {
         let foreseen = self.core.foresee(happening);
         let need = foreseen.need;
@@ -99,14 +118,22 @@ impl<A: Allocator> Desk<A> {
         requires table { self.old.seat.table ≡ words.now.table }
         requires tasks { words.now.tasks ≡ task_count self.old.core.calls }
         requires task { task < words.now.tasks }
-        requires upto { (own : List ℕ) × SweepsUpTo own self.old.core self.old.seat.view self.old.happenings.items self.old.lines.items task }
-        requires room { HasRoom self.old.core (vec_len self.old.lines) (vec_capacity self.old.lines) (vec_len self.old.happenings) (vec_capacity self.old.happenings) }
+        requires upto { (own : List ℕ)
+            × SweepsUpTo own self.old.core self.old.seat.view self.old.happenings.items
+            self.old.lines.items task }
+        requires room { HasRoom self.old.core (vec_len self.old.lines) (vec_capacity self.old.lines)
+            (vec_len self.old.happenings) (vec_capacity self.old.happenings) }
         ensures table { self.new.seat.table ≡ self.old.seat.table }
-        ensures upto { (own : List ℕ) → SweepsUpTo own self.old.core self.old.seat.view self.old.happenings.items self.old.lines.items task
-            → SweepsUpTo own self.new.core self.new.seat.view self.new.happenings.items self.new.lines.items (task + 1) }
+        ensures upto { (own : List ℕ)
+            → SweepsUpTo own self.old.core self.old.seat.view self.old.happenings.items
+            self.old.lines.items task
+            → SweepsUpTo own self.new.core self.new.seat.view self.new.happenings.items
+            self.new.lines.items (task + 1) }
         ensures handles { OnlyOwnGrows self.old.seat.view self.new.seat.view }
-        ensures noted { NotedFor self.old.core self.new.core self.old.happenings.items self.new.happenings.items h.Call }
-        ensures room { HasRoom self.new.core (vec_len self.new.lines) (vec_capacity self.new.lines) (vec_len self.new.happenings) (vec_capacity self.new.happenings) }
+        ensures noted { NotedFor self.old.core self.new.core self.old.happenings.items
+            self.new.happenings.items h.Call }
+        ensures room { HasRoom self.new.core (vec_len self.new.lines) (vec_capacity self.new.lines)
+            (vec_len self.new.happenings) (vec_capacity self.new.happenings) }
     {
         if !self.core.sweeps(task) {
             return;
@@ -121,13 +148,18 @@ impl<A: Allocator> Desk<A> {
     fn sweep_all(&mut self, words: &TaskWords<A>)
         requires table { self.old.seat.table ≡ words.now.table }
         requires tasks { words.now.tasks ≡ task_count self.old.core.calls }
-        requires kept { IsKept self.old.core self.old.seat.view self.old.happenings.items self.old.lines.items }
-        requires room { HasRoom self.old.core (vec_len self.old.lines) (vec_capacity self.old.lines) (vec_len self.old.happenings) (vec_capacity self.old.happenings) }
+        requires kept { IsKept self.old.core self.old.seat.view self.old.happenings.items
+            self.old.lines.items }
+        requires room { HasRoom self.old.core (vec_len self.old.lines) (vec_capacity self.old.lines)
+            (vec_len self.old.happenings) (vec_capacity self.old.happenings) }
         ensures table { self.new.seat.table ≡ self.old.seat.table }
-        ensures upto { SweepsUpTo self.old.seat.view.own self.new.core self.new.seat.view self.new.happenings.items self.new.lines.items words.now.tasks }
+        ensures upto { SweepsUpTo self.old.seat.view.own self.new.core self.new.seat.view
+            self.new.happenings.items self.new.lines.items words.now.tasks }
         ensures handles { OnlyOwnGrows self.old.seat.view self.new.seat.view }
-        ensures noted { NotedFor self.old.core self.new.core self.old.happenings.items self.new.happenings.items h.Call }
-        ensures room { HasRoom self.new.core (vec_len self.new.lines) (vec_capacity self.new.lines) (vec_len self.new.happenings) (vec_capacity self.new.happenings) }
+        ensures noted { NotedFor self.old.core self.new.core self.old.happenings.items
+            self.new.happenings.items h.Call }
+        ensures room { HasRoom self.new.core (vec_len self.new.lines) (vec_capacity self.new.lines)
+            (vec_len self.new.happenings) (vec_capacity self.new.happenings) }
     {
         let tasks = self.core.tasks();
         for task in 0..tasks as u32 {
@@ -139,20 +171,27 @@ impl<A: Allocator> Desk<A> {
     fn sweep(&mut self, words: &TaskWords<A>)
         requires table { self.old.seat.table ≡ words.now.table }
         requires tasks { words.now.tasks ≡ task_count self.old.core.calls }
-        requires kept { IsKept self.old.core self.old.seat.view self.old.happenings.items self.old.lines.items }
+        requires kept { IsKept self.old.core self.old.seat.view self.old.happenings.items
+            self.old.lines.items }
         requires counted { IsCounted self.old.core }
         requires need { need_in self.old.core h.Call ≡ n.Sweep }
         requires comes { Comes self.old.core h.Call }
-        requires room { HasRoom self.old.core (vec_len self.old.lines) (vec_capacity self.old.lines) (vec_len self.old.happenings) (vec_capacity self.old.happenings) }
+        requires room { HasRoom self.old.core (vec_len self.old.lines) (vec_capacity self.old.lines)
+            (vec_len self.old.happenings) (vec_capacity self.old.happenings) }
         ensures table { self.new.seat.table ≡ self.old.seat.table }
-        ensures kept { IsKept self.new.core self.new.seat.view self.new.happenings.items self.new.lines.items }
+        ensures kept { IsKept self.new.core self.new.seat.view self.new.happenings.items
+            self.new.lines.items }
         ensures same { SamePlan self.old.core self.new.core }
         ensures handles { OnlyOwnGrows self.old.seat.view self.new.seat.view }
-        ensures done { Completes self.old.core.calls (workers_of self.old.core) self.old.seat.view.own self.new.seat.view.own (past_in self.old.core self.old.happenings.items) (past_in self.new.core self.new.happenings.items) (h.Call ∷ []) }
+        ensures done { Completes self.old.core.calls (workers_of self.old.core)
+            self.old.seat.view.own self.new.seat.view.own
+            (past_in self.old.core self.old.happenings.items)
+            (past_in self.new.core self.new.happenings.items) (h.Call ∷ []) }
         ensures on { MovesOn self.old.core self.new.core h.Call }
         ensures counted { IsCounted self.new.core }
         ensures less { room_of self.new.core + 1 ≤ room_of self.old.core }
-        ensures room { HasRoom self.new.core (vec_len self.new.lines) (vec_capacity self.new.lines) (vec_len self.new.happenings) (vec_capacity self.new.happenings) }
+        ensures room { HasRoom self.new.core (vec_len self.new.lines) (vec_capacity self.new.lines)
+            (vec_len self.new.happenings) (vec_capacity self.new.happenings) }
     {
         self.sweep_all(words);
         self.core.make_call(&mut self.lines);
@@ -168,19 +207,28 @@ impl<A: Allocator> Desk<A> {
     fn attempt_call(&mut self, words: &TaskWords<A>) -> bool
         requires table { self.old.seat.table ≡ words.now.table }
         requires tasks { words.now.tasks ≡ task_count self.old.core.calls }
-        requires kept { IsKept self.old.core self.old.seat.view self.old.happenings.items self.old.lines.items }
+        requires kept { IsKept self.old.core self.old.seat.view self.old.happenings.items
+            self.old.lines.items }
         requires counted { IsCounted self.old.core }
         requires comes { Comes self.old.core h.Call }
-        requires room { HasRoom self.old.core (vec_len self.old.lines) (vec_capacity self.old.lines) (vec_len self.old.happenings) (vec_capacity self.old.happenings) }
+        requires room { HasRoom self.old.core (vec_len self.old.lines) (vec_capacity self.old.lines)
+            (vec_len self.old.happenings) (vec_capacity self.old.happenings) }
         ensures table { self.new.seat.table ≡ self.old.seat.table }
-        ensures kept { IsKept self.new.core self.new.seat.view self.new.happenings.items self.new.lines.items }
+        ensures kept { IsKept self.new.core self.new.seat.view self.new.happenings.items
+            self.new.lines.items }
         ensures same { SamePlan self.old.core self.new.core }
         ensures handles { OnlyOwnGrows self.old.seat.view self.new.seat.view }
-        ensures done { IsTrue result → Completes self.old.core.calls (workers_of self.old.core) self.old.seat.view.own self.new.seat.view.own (past_in self.old.core self.old.happenings.items) (past_in self.new.core self.new.happenings.items) (h.Call ∷ [])
+        ensures done { IsTrue result
+            → Completes self.old.core.calls (workers_of self.old.core) self.old.seat.view.own
+            self.new.seat.view.own (past_in self.old.core self.old.happenings.items)
+            (past_in self.new.core self.new.happenings.items) (h.Call ∷ [])
             × MovesOn self.old.core self.new.core h.Call }
-        ensures noted { result ≡ false → NotedFor self.old.core self.new.core self.old.happenings.items self.new.happenings.items h.Call × (self.new.seat.view.own ≡ self.old.seat.view.own) }
+        ensures noted { result ≡ false
+            → NotedFor self.old.core self.new.core self.old.happenings.items
+            self.new.happenings.items h.Call × (self.new.seat.view.own ≡ self.old.seat.view.own) }
         ensures more { IsCounted self.new.core × (room_of self.new.core + 1 ≤ room_of self.old.core)
-            × HasRoom self.new.core (vec_len self.new.lines) (vec_capacity self.new.lines) (vec_len self.new.happenings) (vec_capacity self.new.happenings) }
+            × HasRoom self.new.core (vec_len self.new.lines) (vec_capacity self.new.lines)
+            (vec_len self.new.happenings) (vec_capacity self.new.happenings) }
     {
         self.attempt(words, Happening::Call)
     }
@@ -190,17 +238,26 @@ impl<A: Allocator> Desk<A> {
     fn make_calls(&mut self, words: &TaskWords<A>, event: Event)
         requires table { self.old.seat.table ≡ words.now.table }
         requires tasks { words.now.tasks ≡ task_count self.old.core.calls }
-        requires kept { IsKept self.old.core self.old.seat.view self.old.happenings.items self.old.lines.items }
+        requires kept { IsKept self.old.core self.old.seat.view self.old.happenings.items
+            self.old.lines.items }
         requires counted { IsCounted self.old.core }
-        requires room { HasRoom self.old.core (vec_len self.old.lines) (vec_capacity self.old.lines) (vec_len self.old.happenings) (vec_capacity self.old.happenings) }
+        requires room { HasRoom self.old.core (vec_len self.old.lines) (vec_capacity self.old.lines)
+            (vec_len self.old.happenings) (vec_capacity self.old.happenings) }
         ensures table { self.new.seat.table ≡ self.old.seat.table }
-        ensures kept { IsKept self.new.core self.new.seat.view self.new.happenings.items self.new.lines.items }
+        ensures kept { IsKept self.new.core self.new.seat.view self.new.happenings.items
+            self.new.lines.items }
         ensures same { SamePlan self.old.core self.new.core }
         ensures handles { OnlyOwnGrows self.old.seat.view self.new.seat.view }
         ensures counted { IsCounted self.new.core }
-        ensures room { HasRoom self.new.core (vec_len self.new.lines) (vec_capacity self.new.lines) (vec_len self.new.happenings) (vec_capacity self.new.happenings) }
-        ensures comes { EventComes self.new.core.calls self.new.core.made self.new.core.moment event }
-        ensures passed { (more : List OneHappening) × Passes self.old.core.calls (workers_of self.old.core) (happening_of event) self.old.seat.view.own self.new.seat.view.own (past_in self.old.core self.old.happenings.items) (past_in self.new.core self.new.happenings.items) more
+        ensures room { HasRoom self.new.core (vec_len self.new.lines) (vec_capacity self.new.lines)
+            (vec_len self.new.happenings) (vec_capacity self.new.happenings) }
+        ensures comes { EventComes self.new.core.calls self.new.core.made self.new.core.moment
+            event }
+        ensures passed { (more : List OneHappening)
+            × Passes self.old.core.calls (workers_of self.old.core) (happening_of event)
+            self.old.seat.view.own self.new.seat.view.own
+            (past_in self.old.core self.old.happenings.items)
+            (past_in self.new.core self.new.happenings.items) more
             × (part_in self.old.core event ≡ part_in self.new.core event ++ more) }
     {
         while self.core.reaches_call(event) {
@@ -213,15 +270,21 @@ impl<A: Allocator> Desk<A> {
     fn take_last(&mut self, words: &TaskWords<A>, event: Event)
         requires table { self.old.seat.table ≡ words.now.table }
         requires tasks { words.now.tasks ≡ task_count self.old.core.calls }
-        requires kept { IsKept self.old.core self.old.seat.view self.old.happenings.items self.old.lines.items }
+        requires kept { IsKept self.old.core self.old.seat.view self.old.happenings.items
+            self.old.lines.items }
         requires counted { IsCounted self.old.core }
-        requires room { HasRoom self.old.core (vec_len self.old.lines) (vec_capacity self.old.lines) (vec_len self.old.happenings) (vec_capacity self.old.happenings) }
+        requires room { HasRoom self.old.core (vec_len self.old.lines) (vec_capacity self.old.lines)
+            (vec_len self.old.happenings) (vec_capacity self.old.happenings) }
         requires comes { Comes self.old.core (happening_of event) }
         ensures table { self.new.seat.table ≡ self.old.seat.table }
-        ensures kept { IsKept self.new.core self.new.seat.view self.new.happenings.items self.new.lines.items }
+        ensures kept { IsKept self.new.core self.new.seat.view self.new.happenings.items
+            self.new.lines.items }
         ensures same { SamePlan self.old.core self.new.core }
         ensures handles { OnlyOwnGrows self.old.seat.view self.new.seat.view }
-        ensures took { Completes self.old.core.calls (workers_of self.old.core) self.old.seat.view.own self.new.seat.view.own (past_in self.old.core self.old.happenings.items) (past_in self.new.core self.new.happenings.items) (happening_of event ∷ []) }
+        ensures took { Completes self.old.core.calls (workers_of self.old.core)
+            self.old.seat.view.own self.new.seat.view.own
+            (past_in self.old.core self.old.happenings.items)
+            (past_in self.new.core self.new.happenings.items) (happening_of event ∷ []) }
     {
         let happening = event.happening();
         while !self.attempt(words, happening) {}
@@ -233,14 +296,20 @@ impl<A: Allocator> Desk<A> {
     pub fn take(&mut self, words: &TaskWords<A>, event: Event)
         requires table { self.old.seat.table ≡ words.now.table }
         requires tasks { words.now.tasks ≡ task_count self.old.core.calls }
-        requires kept { IsKept self.old.core self.old.seat.view self.old.happenings.items self.old.lines.items }
+        requires kept { IsKept self.old.core self.old.seat.view self.old.happenings.items
+            self.old.lines.items }
         requires counted { IsCounted self.old.core }
-        requires room { HasRoom self.old.core (vec_len self.old.lines) (vec_capacity self.old.lines) (vec_len self.old.happenings) (vec_capacity self.old.happenings) }
+        requires room { HasRoom self.old.core (vec_len self.old.lines) (vec_capacity self.old.lines)
+            (vec_len self.old.happenings) (vec_capacity self.old.happenings) }
         ensures table { self.new.seat.table ≡ self.old.seat.table }
-        ensures kept { IsKept self.new.core self.new.seat.view self.new.happenings.items self.new.lines.items }
+        ensures kept { IsKept self.new.core self.new.seat.view self.new.happenings.items
+            self.new.lines.items }
         ensures same { SamePlan self.old.core self.new.core }
         ensures handles { OnlyOwnGrows self.old.seat.view self.new.seat.view }
-        ensures took { Completes self.old.core.calls (workers_of self.old.core) self.old.seat.view.own self.new.seat.view.own (past_in self.old.core self.old.happenings.items) (past_in self.new.core self.new.happenings.items) (part_in self.old.core event) }
+        ensures took { Completes self.old.core.calls (workers_of self.old.core)
+            self.old.seat.view.own self.new.seat.view.own
+            (past_in self.old.core self.old.happenings.items)
+            (past_in self.new.core self.new.happenings.items) (part_in self.old.core event) }
     {
         self.make_calls(words, event);
         self.take_last(words, event);
@@ -253,16 +322,22 @@ impl<A: Allocator> Desk<A> {
         requires table { self.old.seat.table ≡ words.now.table }
         requires tasks { words.now.tasks ≡ task_count self.old.core.calls }
         requires task { task < words.now.tasks }
-        requires kept { IsKept self.old.core self.old.seat.view self.old.happenings.items self.old.lines.items }
-        requires room { HasRoom self.old.core (vec_len self.old.lines) (vec_capacity self.old.lines) (vec_len self.old.happenings) (vec_capacity self.old.happenings) }
+        requires kept { IsKept self.old.core self.old.seat.view self.old.happenings.items
+            self.old.lines.items }
+        requires room { HasRoom self.old.core (vec_len self.old.lines) (vec_capacity self.old.lines)
+            (vec_len self.old.happenings) (vec_capacity self.old.happenings) }
         ensures table { self.new.seat.table ≡ self.old.seat.table }
-        ensures kept { IsKept self.new.core self.new.seat.view self.new.happenings.items self.new.lines.items }
-        ensures room { HasRoom self.new.core (vec_len self.new.lines) (vec_capacity self.new.lines) (vec_len self.new.happenings) (vec_capacity self.new.happenings) }
-        ensures noted { OnlyNoted self.old.core self.new.core self.old.happenings.items self.new.happenings.items }
+        ensures kept { IsKept self.new.core self.new.seat.view self.new.happenings.items
+            self.new.lines.items }
+        ensures room { HasRoom self.new.core (vec_len self.new.lines) (vec_capacity self.new.lines)
+            (vec_len self.new.happenings) (vec_capacity self.new.happenings) }
+        ensures noted { OnlyNoted self.old.core self.new.core self.old.happenings.items
+            self.new.happenings.items }
         ensures own { self.new.seat.view.own ≡ self.old.seat.view.own }
         ensures handles { OnlyOwnGrows self.old.seat.view self.new.seat.view }
         ensures entries { OnlyMarks self.old.seat.view self.new.seat.view }
-        ensures tells { TellsUpTo self.old.seat.view task → TellsUpTo self.new.seat.view (task + 1) }
+        ensures tells { TellsUpTo self.old.seat.view task
+            → TellsUpTo self.new.seat.view (task + 1) }
     {
         let found = self.seat.look(words, task).is_cancelled();
         if !found {
@@ -279,11 +354,15 @@ impl<A: Allocator> Desk<A> {
     pub fn look_all(&mut self, words: &TaskWords<A>)
         requires table { self.old.seat.table ≡ words.now.table }
         requires tasks { words.now.tasks ≡ task_count self.old.core.calls }
-        requires kept { IsKept self.old.core self.old.seat.view self.old.happenings.items self.old.lines.items }
-        requires room { HasRoom self.old.core (vec_len self.old.lines) (vec_capacity self.old.lines) (vec_len self.old.happenings) (vec_capacity self.old.happenings) }
+        requires kept { IsKept self.old.core self.old.seat.view self.old.happenings.items
+            self.old.lines.items }
+        requires room { HasRoom self.old.core (vec_len self.old.lines) (vec_capacity self.old.lines)
+            (vec_len self.old.happenings) (vec_capacity self.old.happenings) }
         ensures table { self.new.seat.table ≡ self.old.seat.table }
-        ensures kept { IsKept self.new.core self.new.seat.view self.new.happenings.items self.new.lines.items }
-        ensures noted { OnlyNoted self.old.core self.new.core self.old.happenings.items self.new.happenings.items }
+        ensures kept { IsKept self.new.core self.new.seat.view self.new.happenings.items
+            self.new.lines.items }
+        ensures noted { OnlyNoted self.old.core self.new.core self.old.happenings.items
+            self.new.happenings.items }
         ensures own { self.new.seat.view.own ≡ self.old.seat.view.own }
         ensures handles { OnlyOwnGrows self.old.seat.view self.new.seat.view }
         ensures entries { OnlyMarks self.old.seat.view self.new.seat.view }
@@ -300,7 +379,9 @@ impl<A: Allocator> Desk<A> {
     /// The answer of the last line, where it has one.
     #[inline(always)]
     pub fn last_answer(&self) -> Option<Answer>
-        ensures { (before : List Line) (moment : ℕ) (answer : Answer) → self.now.lines.items ≡ before ++ answer_line moment answer ∷ [] → result ≡ Some answer }
+        ensures { (before : List Line) (moment : ℕ) (answer : Answer)
+            → self.now.lines.items ≡ before ++ answer_line moment answer ∷ []
+            → result ≡ Some answer }
     {
         match self.lines.last()?.message() {
             Message::Answer(answer) => Some(answer),

@@ -45,7 +45,8 @@ impl<'s, N: Named, A: Allocator> Handle<'s, N, A> {
     ///
     /// After a `Yes` each later [`state`](Handle::state) of the task is `Cancelled`. No lock is taken, and no memory.
     pub fn cancel(&mut self, task: u32) -> CancelAnswer
-        ensures met { task < length N.cells → HandleCancels self.old.seat task result self.new.seat }
+        ensures met { task < length N.cells
+            → HandleCancels self.old.seat task result self.new.seat }
         ensures past { length N.cells ≤ task → (result ≡ cancel.NoTask) × (self.new ≡ self.old) }
         ensures won { self.new.seat.won ≡ and_if (is_handle_win result) task self.old.seat.won }
         ensures notes { self.new.notes ≡ self.old.notes }
@@ -60,7 +61,8 @@ impl<'s, N: Named, A: Allocator> Handle<'s, N, A> {
     pub fn state(&mut self, task: u32) -> TaskState
         ensures met { task < length N.cells → HandleLooks self.old.seat task result self.new.seat }
         ensures past { length N.cells ≤ task → (result ≡ state.NoTask) × (self.new ≡ self.old) }
-        ensures won { task < length N.cells → 0 < times task self.old.seat.won → result ≡ state.Cancelled }
+        ensures won { task < length N.cells → 0 < times task self.old.seat.won
+            → result ≡ state.Cancelled }
         ensures notes { self.new.notes ≡ self.old.notes }
     {
         let shared = self.shared;

@@ -152,7 +152,8 @@ impl<'s, N: Named, A: HeapAllocator> Pool<'s, N, A> {
         ensures made { IfOk result (λ p. p ≡ record { shared = shared.now; limit = limit }) }
         ensures workers { IsErrOf result PoolError.Workers ↔ ¬ IsWorkerCount workers }
         ensures limit { IsErrOf result PoolError.Limit ↔ (IsWorkerCount workers × (limit ≡ 0)) }
-        ensures others { (IsErrOf result PoolError.Full → ⊥) × (IsErrOf result PoolError.Seats → ⊥) × (IsErrOf result PoolError.Running → ⊥) }
+        ensures others { (IsErrOf result PoolError.Full → ⊥) × (IsErrOf result PoolError.Seats → ⊥)
+            × (IsErrOf result PoolError.Running → ⊥) }
     {
         let book = Book::new(alloc, shared, seat, code, workers, limit)?;
         let (shift, limit) = Limit::lock(book, limit);
@@ -183,7 +184,8 @@ impl<'s, N: Named, A: HeapAllocator> Pool<'s, N, A> {
     where
         N: Send + Sync,
         A: Send + Sync,
-        ensures others { IfErr result (λ e. (e ≡ PoolError.Running) ⊎ ((e ≡ PoolError.Full) ⊎ (e ≡ PoolError.Memory))) }
+        ensures others { IfErr result
+            (λ e. (e ≡ PoolError.Running) ⊎ ((e ≡ PoolError.Full) ⊎ (e ≡ PoolError.Memory))) }
     {
         self.shift.lock(rt).open()?;
         let workers = self.workers;
@@ -302,7 +304,8 @@ impl<'s, N: Named, A: HeapAllocator> Pool<'s, N, A> {
     pub fn handle<R: Wait>(&self, rt: &R) -> Result<Handle<'s, N, A>, PoolError>
         ensures others { IfErr result (λ e. (e ≡ PoolError.Seats) ⊎ (e ≡ PoolError.Memory)) }
         ensures handle { IfOk result (λ h. h.seat ≡ new_handle (length N.cells)) }
-        ensures notes { IfOk result (λ h. AreNotesOf h.notes N.cells × ((k : ℕ) → known_to h k ≡ None)) }
+        ensures notes { IfOk result
+            (λ h. AreNotesOf h.notes N.cells × ((k : ℕ) → known_to h k ≡ None)) }
     {
         self.shift.lock(rt).admit(self.shared)
     }

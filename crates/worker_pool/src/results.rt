@@ -42,7 +42,8 @@ pub fn keep_room<A: HeapAllocator>(
     rooms: &mut Vec<Box<Verdict>, A>,
     event: Event,
 ) -> Result<(), AllocError>
-    ensures finish { (worker : ℕ) (ending : Ended) → event ≡ v.Finish worker ending → OnOk result (1 ≤ length rooms.new.items) }
+    ensures finish { (worker : ℕ) (ending : Ended) → event ≡ v.Finish worker ending
+        → OnOk result (1 ≤ length rooms.new.items) }
     ensures kept { 1 ≤ length rooms.old.items → rooms.new.items ≡ rooms.old.items }
     ensures refused { OnErr result (rooms.new.items ≡ rooms.old.items) }
 {
@@ -98,14 +99,21 @@ pub fn settle<A: Allocator>(
     answer: Option<Answer>,
     rooms: &mut Vec<Box<Verdict>, A>,
 ) -> Option<Box<Verdict>>
-    requires below { (task : ℕ) (ending : Ended) (said : OneAnswer) → answer ≡ Some said → ending_in task said ≡ Some ending → task < length cells.now }
+    requires below { (task : ℕ) (ending : Ended) (said : OneAnswer) → answer ≡ Some said
+        → ending_in task said ≡ Some ending → task < length cells.now }
     requires count { length notes.old.items ≡ length cells.now }
     requires room { IsSome (verdict_told answer) → 1 ≤ length rooms.old.items }
     ensures count { length notes.new.items ≡ length notes.old.items }
-    ensures each { (k : ℕ) → (slice_index_or notes.new.items k None ≡ slice_index_or notes.old.items k None)
-        ⊎ ((note : CellNote Put) × (slice_index_or notes.new.items k None ≡ Some note) × TookVerdict cells.now answer k note) }
-    ensures untold { verdict_told answer ≡ None → (result ≡ None) × (notes.new.items ≡ notes.old.items) × (rooms.new.items ≡ rooms.old.items) }
-    ensures told { IfSome (verdict_told answer) (λ v. IfNone result (HasNoteOf cells.now notes.new.items v) × IfSome result (λ back. back.value ≡ v)) }
+    ensures each { (k : ℕ)
+        → (slice_index_or notes.new.items k None ≡ slice_index_or notes.old.items k None)
+        ⊎ ((note : CellNote Put) × (slice_index_or notes.new.items k None ≡ Some note)
+        × TookVerdict cells.now answer k note) }
+    ensures untold { verdict_told answer ≡ None
+        → (result ≡ None) × (notes.new.items ≡ notes.old.items)
+        × (rooms.new.items ≡ rooms.old.items) }
+    ensures told { IfSome (verdict_told answer)
+        (λ v. IfNone result (HasNoteOf cells.now notes.new.items v)
+        × IfSome result (λ back. back.value ≡ v)) }
 {
     let Some(verdict) = verdict_of(answer) else {
         return None;
@@ -123,9 +131,11 @@ fn set_cell<A: Allocator>(
     requires below { verdict.task < length cells.now }
     requires count { length notes.old.items ≡ length cells.now }
     ensures count { length notes.new.items ≡ length notes.old.items }
-    ensures others { (k : ℕ) → k ≢ verdict.task → slice_index_or notes.new.items k None ≡ slice_index_or notes.old.items k None }
+    ensures others { (k : ℕ) → k ≢ verdict.task
+        → slice_index_or notes.new.items k None ≡ slice_index_or notes.old.items k None }
     ensures put { IfNone result (HasNoteOf cells.now notes.new.items verdict) }
-    ensures refused { IfSome result (λ back. (back.value ≡ verdict) × (notes.new.items ≡ notes.old.items)) }
+    ensures refused { IfSome result
+        (λ back. (back.value ≡ verdict) × (notes.new.items ≡ notes.old.items)) }
 {
     let task = verdict.task as usize;
     let cell = &cells[task];
@@ -147,15 +157,20 @@ pub fn agreed<A: Allocator, B: Allocator>(
     task: u32,
 ) -> Option<Verdict>
     requires count { length mine.old.items ≡ length cells.now }
-    requires mine { (k : ℕ) (note : CellNote Put) → slice_index_or mine.old.items k None ≡ Some note → (note.cell ≡ slice_index cells.now k) × IsSome note.known }
+    requires mine { (k : ℕ) (note : CellNote Put) → slice_index_or mine.old.items k None ≡ Some note
+        → (note.cell ≡ slice_index cells.now k) × IsSome note.known }
     requires theirs { AreNotesOf theirs.old.items cells.now }
     ensures mine { mine.new.items ≡ mine.old.items }
     ensures theirs { AreNotesOf theirs.new.items cells.now }
     ensures past { length cells.now ≤ task → result ≡ None }
     ensures keeps { StaysKnown (known_at theirs.old.items task) (known_at theirs.new.items task) }
-    ensures others { (k : ℕ) → k ≢ task → known_at theirs.new.items k ≡ known_at theirs.old.items k }
-    ensures both { IfSome result (λ v. (known_at theirs.new.items task ≡ Some v) × (note : CellNote Put) × (slice_index_or mine.new.items task None ≡ Some note) × (note.known ≡ Some v)) }
-    ensures wherever { (note : CellNote Put) → slice_index_or mine.old.items task None ≡ Some note → IsSome (known_at theirs.old.items task) → IsSome result }
+    ensures others { (k : ℕ) → k ≢ task
+        → known_at theirs.new.items k ≡ known_at theirs.old.items k }
+    ensures both { IfSome result
+        (λ v. (known_at theirs.new.items task ≡ Some v) × (note : CellNote Put)
+        × (slice_index_or mine.new.items task None ≡ Some note) × (note.known ≡ Some v)) }
+    ensures wherever { (note : CellNote Put) → slice_index_or mine.old.items task None ≡ Some note
+        → IsSome (known_at theirs.old.items task) → IsSome result }
 {
     let place = task as usize;
     if place >= cells.len() {
@@ -176,7 +191,8 @@ fn read_both(
     requires mine { mine.old.cell ≡ cell.now }
     requires theirs { theirs.old.cell ≡ cell.now }
     ensures mine { (mine.new.cell ≡ mine.old.cell) × StaysKnown mine.old.known mine.new.known }
-    ensures theirs { (theirs.new.cell ≡ theirs.old.cell) × StaysKnown theirs.old.known theirs.new.known }
+    ensures theirs { (theirs.new.cell ≡ theirs.old.cell)
+        × StaysKnown theirs.old.known theirs.new.known }
     ensures both { IfSome result (λ v. (mine.new.known ≡ Some v) × (theirs.new.known ≡ Some v)) }
     ensures wherever { IsSome mine.old.known → IsSome theirs.old.known → IsSome result }
 {

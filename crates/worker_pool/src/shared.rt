@@ -34,7 +34,9 @@ impl<A: HeapAllocator> Shared<A> {
     ///
     /// [`PoolError::Memory`], where the allocator refused; then nothing is held.
     pub fn new(alloc: A, tasks: u32) -> Result<(Shared<A>, CoreSeat<A>), PoolError>
-        ensures ok { IfOk result (λ r. (r.0.tasks ≡ tasks) × (length r.0.cells ≡ tasks) × (r.1.table ≡ r.0.table) × (r.1.view ≡ new_core tasks)) }
+        ensures ok { IfOk result
+            (λ r. (r.0.tasks ≡ tasks) × (length r.0.cells ≡ tasks) × (r.1.table ≡ r.0.table)
+            × (r.1.view ≡ new_core tasks)) }
         ensures err { IfErr result (λ e. e ≡ PoolError.Memory) }
     {
         let Ok((words, seat)) = TaskWords::new(alloc, tasks) else {

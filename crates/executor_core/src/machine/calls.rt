@@ -21,7 +21,8 @@ impl<A: Allocator> Core<A> {
     pub(super) fn next_call(&self) -> Option<(u64, CodeCall)>
         ensures call { result ≡ slice_get self.now.calls self.now.made }
         ensures orderly { IsOrderly self.now.calls }
-        ensures ahead { (call : Planned) → slice_get self.now.calls self.now.made ≡ Some call → self.now.moment ≤ call.0 }
+        ensures ahead { (call : Planned) → slice_get self.now.calls self.now.made ≡ Some call
+            → self.now.moment ≤ call.0 }
     {
         self.calls.next()
     }
@@ -33,7 +34,8 @@ impl<A: Allocator> Core<A> {
         requires left { self.old.made < length self.old.calls }
         requires room { vec_len out.old + room_of self.old ≤ vec_capacity out.old }
         ensures steps { Steps self.old self.new out.old.items out.new.items (happening.Call ∷ []) }
-        ensures history { ContinuesAny self.old self.new out.old.items out.new.items happening.Call }
+        ensures history { ContinuesAny self.old self.new out.old.items out.new.items
+            happening.Call }
         ensures made { self.new.made ≡ self.old.made + 1 }
         ensures leaves { Leaves self.old self.new (vec_len out.old) (vec_len out.new) }
         ensures room { GivesRoom self.old self.new (vec_len out.old) (vec_len out.new) }
@@ -63,7 +65,8 @@ impl<A: Allocator> Core<A> {
 
     /// The next call submits a task: it is refused where the executor is shut.
     fn submit(&mut self, moment: u64, task: u32, timing: Timing, delay: u64) -> Answer
-        requires { slice_get self.old.calls self.old.made ≡ Some (moment, call.Submit task timing delay) }
+        requires { slice_get self.old.calls self.old.made
+            ≡ Some (moment, call.Submit task timing delay) }
         ensures step { Takes self.old self.new happening.Call result }
         ensures made { self.new.made ≡ self.old.made + 1 }
         ensures uncancelled { uncancelled_in self.new.tasks ≤ uncancelled_in self.old.tasks }
@@ -84,7 +87,8 @@ impl<A: Allocator> Core<A> {
 
     /// The next call asks for a task with an illegal period.
     fn refuse(&mut self, task: u32) -> Answer
-        requires { (at : ℕ) × (slice_get self.old.calls self.old.made ≡ Some (at, call.Illegal task)) }
+        requires { (at : ℕ)
+            × (slice_get self.old.calls self.old.made ≡ Some (at, call.Illegal task)) }
         ensures step { Takes self.old self.new happening.Call result }
         ensures made { self.new.made ≡ self.old.made + 1 }
         ensures uncancelled { uncancelled_in self.new.tasks ≤ uncancelled_in self.old.tasks }
@@ -98,7 +102,8 @@ impl<A: Allocator> Core<A> {
 
     /// The next call cancels a task.
     fn cancel_by_plan(&mut self, task: u32) -> Answer
-        requires { (at : ℕ) × (slice_get self.old.calls self.old.made ≡ Some (at, call.Cancel task)) }
+        requires { (at : ℕ)
+            × (slice_get self.old.calls self.old.made ≡ Some (at, call.Cancel task)) }
         ensures step { Takes self.old self.new happening.Call result }
         ensures made { self.new.made ≡ self.old.made + 1 }
         ensures uncancelled { uncancelled_in self.new.tasks ≤ uncancelled_in self.old.tasks }

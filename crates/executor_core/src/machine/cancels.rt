@@ -24,10 +24,13 @@ impl<A: Allocator> Core<A> {
     #[inline(always)]
     pub fn cancel<B: Allocator>(&mut self, task: u32, out: &mut Vec<Line, B>)
         requires { vec_len out.old + room_of self.old ≤ vec_capacity out.old }
-        ensures steps { Steps self.old self.new out.old.items out.new.items (happening.Cancel task ∷ []) }
-        ensures history { ContinuesAny self.old self.new out.old.items out.new.items (happening.Cancel task) }
+        ensures steps { Steps self.old self.new out.old.items out.new.items
+            (happening.Cancel task ∷ []) }
+        ensures history { ContinuesAny self.old self.new out.old.items out.new.items
+            (happening.Cancel task) }
         ensures leaves { Leaves self.old self.new (vec_len out.old) (vec_len out.new) }
-        ensures effective { (reply_of self.old.calls (workers_of self.old) (state_of self.old) (happening.Cancel task)).answer ≡ answer.Outside task effect.Yes
+        ensures effective { (reply_of self.old.calls (workers_of self.old) (state_of self.old)
+            (happening.Cancel task)).answer ≡ answer.Outside task effect.Yes
             → GivesRoom self.old self.new (vec_len out.old) (vec_len out.new) }
         ensures counted { IsCounted self.old → IsCounted self.new }
         ensures capacity { vec_capacity out.new ≡ vec_capacity out.old }
@@ -40,7 +43,8 @@ impl<A: Allocator> Core<A> {
     fn answer_cancel(&mut self, task: u32) -> Answer
         ensures step { Takes self.old self.new (happening.Cancel task) result }
         ensures size { length self.new.tasks ≡ length self.old.tasks }
-        ensures fewer { result ≡ answer.Outside task effect.Yes → uncancelled_in self.new.tasks + 1 ≡ uncancelled_in self.old.tasks }
+        ensures fewer { result ≡ answer.Outside task effect.Yes
+            → uncancelled_in self.new.tasks + 1 ≡ uncancelled_in self.old.tasks }
     {
         if !self.tasks.has(task) {
             return Answer::Error(EventError::NoTask);
@@ -53,8 +57,15 @@ impl<A: Allocator> Core<A> {
     /// say that it leaves the queue.
     pub(super) fn cancel_task(&mut self, task: u32) -> CancelEffect
         requires { task < length self.old.tasks }
-        ensures effect { result ≡ effect_on (seen_task (terms_of self.old.calls task) (slice_index_or self.old.tasks task vacant)) }
-        ensures yes { result ≡ effect.Yes → self.new ≡ record self.old { tasks = slice_set self.old.tasks task (cancelled_task self.old.policies.removes (slice_index_or self.old.tasks task vacant)) } }
+        ensures effect { result
+            ≡ effect_on
+            (seen_task (terms_of self.old.calls task) (slice_index_or self.old.tasks task vacant)) }
+        ensures yes { result ≡ effect.Yes
+            → self.new
+            ≡ record self.old {
+              tasks = slice_set self.old.tasks task
+                  (cancelled_task self.old.policies.removes (slice_index_or self.old.tasks task vacant));
+            } }
         ensures no { result ≢ effect.Yes → self.new ≡ self.old }
     {
         let effect = effect_on(self.tasks.get(task as usize));
@@ -68,8 +79,14 @@ impl<A: Allocator> Core<A> {
     #[inline(never)]
     fn cancel_live(&mut self, task: u32)
         requires known { task < length self.old.tasks }
-        requires live { effect_on (seen_task (terms_of self.old.calls task) (slice_index_or self.old.tasks task vacant)) ≡ effect.Yes }
-        ensures { self.new ≡ record self.old { tasks = slice_set self.old.tasks task (cancelled_task self.old.policies.removes (slice_index_or self.old.tasks task vacant)) } }
+        requires live { effect_on
+            (seen_task (terms_of self.old.calls task) (slice_index_or self.old.tasks task vacant))
+            ≡ effect.Yes }
+        ensures { self.new
+            ≡ record self.old {
+              tasks = slice_set self.old.tasks task
+                  (cancelled_task self.old.policies.removes (slice_index_or self.old.tasks task vacant));
+            } }
     {
         let place = task as usize;
         let before = self.tasks.get(place);

@@ -23,10 +23,13 @@ impl<A: Allocator> Core<A> {
     /// Where the clock is moved, no call with a moment of at most this one may be left.
     #[inline(always)]
     pub fn move_clock<B: Allocator>(&mut self, moment: u64, out: &mut Vec<Line, B>)
-        requires calls { is_accepted self.old.moment moment ≡ true → AreMade self.old.calls self.old.made moment }
+        requires calls { is_accepted self.old.moment moment ≡ true
+            → AreMade self.old.calls self.old.made moment }
         requires room { vec_len out.old + room_of self.old ≤ vec_capacity out.old }
-        ensures steps { Steps self.old self.new out.old.items out.new.items (happening.Clock moment ∷ []) }
-        ensures history { ContinuesAny self.old self.new out.old.items out.new.items (happening.Clock moment) }
+        ensures steps { Steps self.old self.new out.old.items out.new.items
+            (happening.Clock moment ∷ []) }
+        ensures history { ContinuesAny self.old self.new out.old.items out.new.items
+            (happening.Clock moment) }
         ensures leaves { Leaves self.old self.new (vec_len out.old) (vec_len out.new) }
         ensures capacity { vec_capacity out.new ≡ vec_capacity out.old }
     {
@@ -39,7 +42,9 @@ impl<A: Allocator> Core<A> {
         ensures accepted { (result ≡ None) ↔ (is_accepted self.now.moment moment ≡ true) }
         ensures orderly { IsOrderly self.now.calls }
         ensures within { result ≡ None → (self.now.moment ≤ moment) × (moment ≤ longest) }
-        ensures error { IfSome result (λ error. reply_of self.now.calls (workers_of self.now) (state_of self.now) (happening.Clock moment) ≡ bare (answer.Error error)) }
+        ensures error { IfSome result
+            (λ error. reply_of self.now.calls (workers_of self.now) (state_of self.now)
+            (happening.Clock moment) ≡ bare (answer.Error error)) }
     {
         if moment < self.moment {
             return Some(EventError::Backward);
@@ -52,7 +57,8 @@ impl<A: Allocator> Core<A> {
 
     /// The clock shows a moment.
     fn answer_clock(&mut self, moment: u64) -> Answer
-        requires { is_accepted self.old.moment moment ≡ true → AreMade self.old.calls self.old.made moment }
+        requires { is_accepted self.old.moment moment ≡ true
+            → AreMade self.old.calls self.old.made moment }
         ensures step { Takes self.old self.new (happening.Clock moment) result }
         ensures size { length self.new.tasks ≡ length self.old.tasks }
     {

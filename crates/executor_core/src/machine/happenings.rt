@@ -49,9 +49,12 @@ impl<A: Allocator> Core<A> {
     /// ```
     #[inline(always)]
     pub fn reaches_call(&self, event: Event) -> bool
-        ensures comes { (result ≡ false) ↔ MayFrom self.now.calls self.now.made self.now.moment (happening_of event) }
-        ensures call { IsTrue result → CallComes self.now.calls self.now.made self.now.moment event }
-        ensures event { result ≡ false → EventComes self.now.calls self.now.made self.now.moment event }
+        ensures comes { (result ≡ false)
+            ↔ MayFrom self.now.calls self.now.made self.now.moment (happening_of event) }
+        ensures call { IsTrue result
+            → CallComes self.now.calls self.now.made self.now.moment event }
+        ensures event { result ≡ false
+            → EventComes self.now.calls self.now.made self.now.moment event }
     {
         let Event::Clock(moment) = event else {
             return false;
@@ -66,7 +69,8 @@ impl<A: Allocator> Core<A> {
     /// The word moves of a happening; of a call where none is left, `Nothing`.
     #[inline(always)]
     pub fn need(&self, happening: Happening) -> Need
-        ensures { result ≡ need_of self.now.calls (workers_of self.now) (state_of self.now) happening }
+        ensures { result
+            ≡ need_of self.now.calls (workers_of self.now) (state_of self.now) happening }
     {
         match happening {
             Happening::Call => match self.next_call() {
@@ -86,8 +90,10 @@ impl<A: Allocator> Core<A> {
     #[inline(always)]
     pub fn foresee(&self, happening: Happening) -> Foreseen
         ensures foreseen { result ≡ foresight self.now happening }
-        ensures answer { (worker : ℕ) (ending : EndingOf) (end : RunEndOf) → happening ≡ h.Finish worker ending → result.end ≡ Some end
-            → (reply_of self.now.calls (workers_of self.now) (state_of self.now) happening).answer ≡ answer.Finish worker end.task end.run end.outcome }
+        ensures answer { (worker : ℕ) (ending : EndingOf) (end : RunEndOf)
+            → happening ≡ h.Finish worker ending → result.end ≡ Some end
+            → (reply_of self.now.calls (workers_of self.now) (state_of self.now) happening).answer
+            ≡ answer.Finish worker end.task end.run end.outcome }
     {
         if let Happening::Finish(worker, ending) = happening {
             let end = self.run_end(worker, ending);
@@ -111,16 +117,20 @@ impl<A: Allocator> Core<A> {
     #[inline(always)]
     pub fn happen<B: Allocator>(&mut self, happening: Happening, out: &mut Vec<Line, B>)
         requires comes { MayFrom self.old.calls self.old.made self.old.moment happening }
-        requires counted { RunsBelowTaken self.old (need_of self.old.calls (workers_of self.old) (state_of self.old) happening) }
+        requires counted { RunsBelowTaken self.old
+            (need_of self.old.calls (workers_of self.old) (state_of self.old) happening) }
         requires room { vec_len out.old + room_of self.old ≤ vec_capacity out.old }
         ensures steps { Steps self.old self.new out.old.items out.new.items (happening ∷ []) }
         ensures history { ContinuesAny self.old self.new out.old.items out.new.items happening }
         ensures leaves { Leaves self.old self.new (vec_len out.old) (vec_len out.new) }
-        ensures call { is_call happening ≡ true → GivesRoom self.old self.new (vec_len out.old) (vec_len out.new) }
-        ensures effective { (task : ℕ) → happening ≡ h.Cancel task
-            → (reply_of self.old.calls (workers_of self.old) (state_of self.old) happening).answer ≡ answer.Outside task effect.Yes
+        ensures call { is_call happening ≡ true
             → GivesRoom self.old self.new (vec_len out.old) (vec_len out.new) }
-        ensures counted { comes_before_event happening ≡ true → IsCounted self.old → IsCounted self.new }
+        ensures effective { (task : ℕ) → happening ≡ h.Cancel task
+            → (reply_of self.old.calls (workers_of self.old) (state_of self.old) happening).answer
+            ≡ answer.Outside task effect.Yes
+            → GivesRoom self.old self.new (vec_len out.old) (vec_len out.new) }
+        ensures counted { comes_before_event happening ≡ true → IsCounted self.old
+            → IsCounted self.new }
         ensures capacity { vec_capacity out.new ≡ vec_capacity out.old }
     {
         match happening {
@@ -140,14 +150,19 @@ impl<A: Allocator> Core<A> {
         requires comes { MayFrom self.old.calls self.old.made self.old.moment foreseen.happening }
         requires counted { RunsBelowTaken self.old foreseen.need }
         requires room { vec_len out.old + room_of self.old ≤ vec_capacity out.old }
-        ensures steps { Steps self.old self.new out.old.items out.new.items (foreseen.happening ∷ []) }
-        ensures history { ContinuesAny self.old self.new out.old.items out.new.items foreseen.happening }
+        ensures steps { Steps self.old self.new out.old.items out.new.items
+            (foreseen.happening ∷ []) }
+        ensures history { ContinuesAny self.old self.new out.old.items out.new.items
+            foreseen.happening }
         ensures leaves { Leaves self.old self.new (vec_len out.old) (vec_len out.new) }
-        ensures call { is_call foreseen.happening ≡ true → GivesRoom self.old self.new (vec_len out.old) (vec_len out.new) }
-        ensures effective { (task : ℕ) → foreseen.happening ≡ h.Cancel task
-            → (reply_of self.old.calls (workers_of self.old) (state_of self.old) foreseen.happening).answer ≡ answer.Outside task effect.Yes
+        ensures call { is_call foreseen.happening ≡ true
             → GivesRoom self.old self.new (vec_len out.old) (vec_len out.new) }
-        ensures counted { comes_before_event foreseen.happening ≡ true → IsCounted self.old → IsCounted self.new }
+        ensures effective { (task : ℕ) → foreseen.happening ≡ h.Cancel task
+            → (reply_of self.old.calls (workers_of self.old) (state_of self.old)
+            foreseen.happening).answer ≡ answer.Outside task effect.Yes
+            → GivesRoom self.old self.new (vec_len out.old) (vec_len out.new) }
+        ensures counted { comes_before_event foreseen.happening ≡ true → IsCounted self.old
+            → IsCounted self.new }
         ensures capacity { vec_capacity out.new ≡ vec_capacity out.old }
     {
         match foreseen.happening {

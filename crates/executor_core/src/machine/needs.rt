@@ -30,7 +30,9 @@ impl<A: Allocator> Core<A> {
         ensures left { IfSome result (λ _. self.now.made < length self.now.calls) }
         ensures next { IfSome result (λ _. ReachesNext self.now.calls self.now.made moment) }
         ensures over { result ≡ None → reached self.now.calls self.now.made moment ≡ 0 }
-        ensures need { IfSome result (λ need. need ≡ need_of self.now.calls (workers_of self.now) (state_of self.now) happening.Call) }
+        ensures need { IfSome result
+            (λ need. need
+            ≡ need_of self.now.calls (workers_of self.now) (state_of self.now) happening.Call) }
     {
         let (at, call) = self.next_call()?;
         if moment < at {
@@ -42,7 +44,8 @@ impl<A: Allocator> Core<A> {
     /// The word moves of the next call, which is this one.
     pub(super) fn need_of_call(&self, call: CodeCall) -> Need
         requires { (at : ℕ) × (slice_get self.now.calls self.now.made ≡ Some (at, call)) }
-        ensures { result ≡ need_of self.now.calls (workers_of self.now) (state_of self.now) happening.Call }
+        ensures { result
+            ≡ need_of self.now.calls (workers_of self.now) (state_of self.now) happening.Call }
     {
         match call {
             CodeCall::Submit { task, .. } => {
@@ -74,7 +77,10 @@ impl<A: Allocator> Core<A> {
 
     /// Whether the next call would end this task, by a sweep.
     pub fn sweeps(&self, task: u32) -> bool
-        ensures { result ≡ is_end task (reply_of self.now.calls (workers_of self.now) (state_of self.now) happening.Call).ends }
+        ensures { result
+            ≡ is_end task
+            (reply_of self.now.calls (workers_of self.now) (state_of self.now)
+            happening.Call).ends }
     {
         let Some((at, call)) = self.next_call() else {
             return false;
@@ -96,7 +102,9 @@ impl<A: Allocator> Core<A> {
 
     /// The word moves of a start of this worker.
     pub fn start_need(&self, worker: u8) -> Need
-        ensures { result ≡ need_of self.now.calls (workers_of self.now) (state_of self.now) (happening.Start worker) }
+        ensures { result
+            ≡ need_of self.now.calls (workers_of self.now) (state_of self.now)
+            (happening.Start worker) }
     {
         let place = worker as usize;
         if place >= self.work.len() {
@@ -113,14 +121,18 @@ impl<A: Allocator> Core<A> {
 
     /// The word moves of a finish of this worker, whose run ended so.
     pub fn finish_need(&self, worker: u8, ending: Ending) -> Need
-        ensures { result ≡ need_of self.now.calls (workers_of self.now) (state_of self.now) (happening.Finish worker ending) }
+        ensures { result
+            ≡ need_of self.now.calls (workers_of self.now) (state_of self.now)
+            (happening.Finish worker ending) }
     {
         need_of_end(self.run_end(worker, ending))
     }
 
     /// The word moves of a cancel of this task from outside the plan.
     pub fn cancel_need(&self, task: u32) -> Need
-        ensures { result ≡ need_of self.now.calls (workers_of self.now) (state_of self.now) (happening.Cancel task) }
+        ensures { result
+            ≡ need_of self.now.calls (workers_of self.now) (state_of self.now)
+            (happening.Cancel task) }
     {
         if !self.tasks.has(task) {
             return Need::Nothing;
@@ -142,7 +154,8 @@ impl<A: Allocator> Core<A> {
 
     /// Whether the due moment of some task that waits or is kept is reached.
     pub fn ripe(&self) -> bool
-        ensures { IsTrue result ↔ IsRipe self.now.calls (view_of_state self.now.calls (state_of self.now)) }
+        ensures { IsTrue result
+            ↔ IsRipe self.now.calls (view_of_state self.now.calls (state_of self.now)) }
     {
         first_due(&self.queue, self.moment).is_some()
             || first_due(&self.kept, self.moment).is_some()

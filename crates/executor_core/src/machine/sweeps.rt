@@ -28,7 +28,8 @@ impl<A: Allocator> Core<A> {
         value: bool,
         out: &mut Vec<Line, B>,
     )
-        requires call { (at : ℕ) × (slice_get self.old.calls self.old.made ≡ Some (at, call.SetPolicy which value)) }
+        requires call { (at : ℕ)
+            × (slice_get self.old.calls self.old.made ≡ Some (at, call.SetPolicy which value)) }
         requires room { vec_len out.old + room_of self.old ≤ vec_capacity out.old }
         ensures steps { Steps self.old self.new out.old.items out.new.items (happening.Call ∷ []) }
         ensures made { self.new.made ≡ self.old.made + 1 }
@@ -51,7 +52,8 @@ impl<A: Allocator> Core<A> {
     /// The next call is a shutdown.
     #[cold]
     pub(super) fn shut_down<B: Allocator>(&mut self, out: &mut Vec<Line, B>)
-        requires call { (at : ℕ) × (slice_get self.old.calls self.old.made ≡ Some (at, call.Shutdown)) }
+        requires call { (at : ℕ)
+            × (slice_get self.old.calls self.old.made ≡ Some (at, call.Shutdown)) }
         requires room { vec_len out.old + room_of self.old ≤ vec_capacity out.old }
         ensures steps { Steps self.old self.new out.old.items out.new.items (happening.Call ∷ []) }
         ensures made { self.new.made ≡ self.old.made + 1 }
@@ -73,7 +75,8 @@ impl<A: Allocator> Core<A> {
     /// The next call is a shutdown at once.
     #[cold]
     pub(super) fn shut_down_now<B: Allocator>(&mut self, out: &mut Vec<Line, B>)
-        requires call { (at : ℕ) × (slice_get self.old.calls self.old.made ≡ Some (at, call.ShutdownNow)) }
+        requires call { (at : ℕ)
+            × (slice_get self.old.calls self.old.made ≡ Some (at, call.ShutdownNow)) }
         requires room { vec_len out.old + room_of self.old ≤ vec_capacity out.old }
         ensures steps { Steps self.old self.new out.old.items out.new.items (happening.Call ∷ []) }
         ensures made { self.new.made ≡ self.old.made + 1 }
@@ -94,7 +97,8 @@ impl<A: Allocator> Core<A> {
         requires shut { self.old.shut ≡ true }
         requires room { vec_len out.old + uncancelled_in self.old.tasks ≤ vec_capacity out.old }
         ensures sweeps { Sweeps self.old self.new out.old.items out.new.items }
-        ensures room { vec_len out.new + uncancelled_in self.new.tasks ≤ vec_len out.old + uncancelled_in self.old.tasks }
+        ensures room { vec_len out.new + uncancelled_in self.new.tasks ≤ vec_len out.old
+            + uncancelled_in self.old.tasks }
         ensures capacity { vec_capacity out.new ≡ vec_capacity out.old }
     {
         if self.may_end() {
@@ -106,7 +110,9 @@ impl<A: Allocator> Core<A> {
 
     /// Whether there may be a task that a sweep ends.
     fn may_end(&self) -> bool
-        ensures none { result ≡ false → (k : ℕ) → is_swept self.now.calls (view_of_state self.now.calls (state_of self.now)) self.now.policies k ≡ false }
+        ensures none { result ≡ false → (k : ℕ)
+            → is_swept self.now.calls (view_of_state self.now.calls (state_of self.now))
+            self.now.policies k ≡ false }
         ensures tasks { length self.now.tasks ≡ task_count self.now.calls }
     {
         if self.stopped {
@@ -120,7 +126,8 @@ impl<A: Allocator> Core<A> {
     fn end_tasks<B: Allocator>(&mut self, out: &mut Vec<Line, B>)
         requires { vec_len out.old + uncancelled_in self.old.tasks ≤ vec_capacity out.old }
         ensures ends { Ends self.old self.new out.old.items out.new.items (length self.old.tasks) }
-        ensures room { vec_len out.new + uncancelled_in self.new.tasks ≤ vec_len out.old + uncancelled_in self.old.tasks }
+        ensures room { vec_len out.new + uncancelled_in self.new.tasks ≤ vec_len out.old
+            + uncancelled_in self.old.tasks }
         ensures capacity { vec_capacity out.new ≡ vec_capacity out.old }
     {
         let mut task = self.candidate(0);
@@ -139,7 +146,9 @@ impl<A: Allocator> Core<A> {
         requires { from ≤ length self.now.tasks }
         ensures from { from ≤ result }
         ensures within { result ≤ length self.now.tasks }
-        ensures passed { (k : ℕ) → from ≤ k → k < result → is_swept self.now.calls (view_of_state self.now.calls (state_of self.now)) self.now.policies k ≡ false }
+        ensures passed { (k : ℕ) → from ≤ k → k < result
+            → is_swept self.now.calls (view_of_state self.now.calls (state_of self.now))
+            self.now.policies k ≡ false }
     {
         if self.stopped {
             return from;
@@ -153,7 +162,9 @@ impl<A: Allocator> Core<A> {
     /// Notes what a sweep has looked for and ended, under the present policies.
     fn note_search(&mut self)
         requires shut { self.old.shut ≡ true }
-        requires swept { (k : ℕ) → is_swept self.old.calls (view_of_state self.old.calls (state_of self.old)) self.old.policies k ≡ false }
+        requires swept { (k : ℕ)
+            → is_swept self.old.calls (view_of_state self.old.calls (state_of self.old))
+            self.old.policies k ≡ false }
         ensures { self.new ≡ self.old }
     {
         if !self.policies.executes {
@@ -168,7 +179,9 @@ impl<A: Allocator> Core<A> {
     fn note_delayed(&mut self)
         requires shut { self.old.shut ≡ true }
         requires policy { self.old.policies.executes ≡ false }
-        requires swept { (k : ℕ) → is_swept self.old.calls (view_of_state self.old.calls (state_of self.old)) self.old.policies k ≡ false }
+        requires swept { (k : ℕ)
+            → is_swept self.old.calls (view_of_state self.old.calls (state_of self.old))
+            self.old.policies k ≡ false }
         ensures { self.new ≡ self.old }
     {
         self.sought.note_delayed();
@@ -178,7 +191,9 @@ impl<A: Allocator> Core<A> {
     fn note_periodic(&mut self)
         requires shut { self.old.shut ≡ true }
         requires policy { self.old.policies.continues ≡ false }
-        requires swept { (k : ℕ) → is_swept self.old.calls (view_of_state self.old.calls (state_of self.old)) self.old.policies k ≡ false }
+        requires swept { (k : ℕ)
+            → is_swept self.old.calls (view_of_state self.old.calls (state_of self.old))
+            self.old.policies k ≡ false }
         ensures { self.new ≡ self.old }
     {
         self.sought.note_periodic(&self.tasks);
@@ -192,8 +207,15 @@ impl<A: Allocator> Core<A> {
         policies: Policies,
         now: u64,
     ) -> bool
-        ensures test { result ≡ is_swept self.now.calls (record (view_of_state self.now.calls (state_of self.now)) { moment = now; stopped = stopped }) policies task }
-        ensures end { result ≡ is_end task (swept self.now.calls (record (view_of_state self.now.calls (state_of self.now)) { moment = now; stopped = stopped }) policies) }
+        ensures test { result
+            ≡ is_swept self.now.calls
+            (record (view_of_state self.now.calls (state_of self.now))
+            { moment = now; stopped = stopped }) policies task }
+        ensures end { result
+            ≡ is_end task
+            (swept self.now.calls
+            (record (view_of_state self.now.calls (state_of self.now))
+            { moment = now; stopped = stopped }) policies) }
     {
         if task >= self.tasks.len() {
             return false;
@@ -207,7 +229,11 @@ impl<A: Allocator> Core<A> {
         requires waits { waits_with (slice_index_or self.old.tasks task vacant) ≡ true }
         requires known { task < length self.old.tasks }
         requires room { vec_len out.old < vec_capacity out.old }
-        ensures ended { self.new ≡ record self.old { tasks = slice_set self.old.tasks task (record (slice_index_or self.old.tasks task vacant) { cancelled = true }) } }
+        ensures ended { self.new
+            ≡ record self.old {
+              tasks = slice_set self.old.tasks task
+                  (record (slice_index_or self.old.tasks task vacant) { cancelled = true });
+            } }
         ensures line { out.new.items ≡ out.old.items ++ end_line self.old.moment task ∷ [] }
         ensures len { vec_len out.new ≡ vec_len out.old + 1 }
         ensures capacity { vec_capacity out.new ≡ vec_capacity out.old }

@@ -36,10 +36,14 @@ impl<A: Allocator> Core<A> {
     /// [`taken`](Core::taken).
     #[inline(always)]
     pub fn start<B: Allocator>(&mut self, worker: u8, out: &mut Vec<Line, B>)
-        requires counted { RunsBelowTaken self.old (need_of self.old.calls (workers_of self.old) (state_of self.old) (happening.Start worker)) }
+        requires counted { RunsBelowTaken self.old
+            (need_of self.old.calls (workers_of self.old) (state_of self.old)
+            (happening.Start worker)) }
         requires room { vec_len out.old + room_of self.old ≤ vec_capacity out.old }
-        ensures steps { Steps self.old self.new out.old.items out.new.items (happening.Start worker ∷ []) }
-        ensures history { ContinuesAny self.old self.new out.old.items out.new.items (happening.Start worker) }
+        ensures steps { Steps self.old self.new out.old.items out.new.items
+            (happening.Start worker ∷ []) }
+        ensures history { ContinuesAny self.old self.new out.old.items out.new.items
+            (happening.Start worker) }
         ensures leaves { Leaves self.old self.new (vec_len out.old) (vec_len out.new) }
         ensures capacity { vec_capacity out.new ≡ vec_capacity out.old }
     {
@@ -50,7 +54,9 @@ impl<A: Allocator> Core<A> {
     /// What a worker that asks for work is answered.
     #[inline(always)]
     fn answer_start(&mut self, worker: u8) -> Answer
-        requires { RunsBelowTaken self.old (need_of self.old.calls (workers_of self.old) (state_of self.old) (happening.Start worker)) }
+        requires { RunsBelowTaken self.old
+            (need_of self.old.calls (workers_of self.old) (state_of self.old)
+            (happening.Start worker)) }
         ensures step { Takes self.old self.new (happening.Start worker) result }
         ensures size { length self.new.tasks ≡ length self.old.tasks }
     {
@@ -97,8 +103,10 @@ impl<A: Allocator> Core<A> {
     #[inline(always)]
     pub fn finish<B: Allocator>(&mut self, worker: u8, ending: Ending, out: &mut Vec<Line, B>)
         requires { vec_len out.old + room_of self.old ≤ vec_capacity out.old }
-        ensures steps { Steps self.old self.new out.old.items out.new.items (happening.Finish worker ending ∷ []) }
-        ensures history { ContinuesAny self.old self.new out.old.items out.new.items (happening.Finish worker ending) }
+        ensures steps { Steps self.old self.new out.old.items out.new.items
+            (happening.Finish worker ending ∷ []) }
+        ensures history { ContinuesAny self.old self.new out.old.items out.new.items
+            (happening.Finish worker ending) }
         ensures leaves { Leaves self.old self.new (vec_len out.old) (vec_len out.new) }
         ensures capacity { vec_capacity out.new ≡ vec_capacity out.old }
     {
@@ -117,8 +125,10 @@ impl<A: Allocator> Core<A> {
     )
         requires end { end ≡ end_in self.old (happening.Finish worker ending) }
         requires room { vec_len out.old + room_of self.old ≤ vec_capacity out.old }
-        ensures steps { Steps self.old self.new out.old.items out.new.items (happening.Finish worker ending ∷ []) }
-        ensures history { ContinuesAny self.old self.new out.old.items out.new.items (happening.Finish worker ending) }
+        ensures steps { Steps self.old self.new out.old.items out.new.items
+            (happening.Finish worker ending ∷ []) }
+        ensures history { ContinuesAny self.old self.new out.old.items out.new.items
+            (happening.Finish worker ending) }
         ensures leaves { Leaves self.old self.new (vec_len out.old) (vec_len out.new) }
         ensures capacity { vec_capacity out.new ≡ vec_capacity out.old }
     {
@@ -161,8 +171,13 @@ impl<A: Allocator> Core<A> {
     #[inline(always)]
     pub(super) fn run_end(&self, worker: u8, ending: Ending) -> Option<RunEnd>
         ensures end { result ≡ end_in self.now (happening.Finish worker ending) }
-        ensures answer { (end : RunEndOf) → result ≡ Some end → (reply_of self.now.calls (workers_of self.now) (state_of self.now) (happening.Finish worker ending)).answer ≡ answer.Finish worker end.task end.run end.outcome }
-        ensures need { need_of_end result ≡ need_of self.now.calls (workers_of self.now) (state_of self.now) (happening.Finish worker ending) }
+        ensures answer { (end : RunEndOf) → result ≡ Some end
+            → (reply_of self.now.calls (workers_of self.now) (state_of self.now)
+            (happening.Finish worker ending)).answer
+            ≡ answer.Finish worker end.task end.run end.outcome }
+        ensures need { need_of_end result
+            ≡ need_of self.now.calls (workers_of self.now) (state_of self.now)
+            (happening.Finish worker ending) }
     {
         let place = worker as usize;
         if place >= self.work.len() {
@@ -187,7 +202,10 @@ impl<A: Allocator> Core<A> {
     #[inline(always)]
     fn end_of_run(&self, task: Task, ending: Ending) -> (Outcome, u64)
         requires { task.due ≤ longest }
-        ensures outcome { result.0 ≡ outcome_in task.cancelled (stops_periodic self.now.shut self.now.stopped self.now.policies) task.timing (due_past task.timing task.due self.now.moment) ending }
+        ensures outcome { result.0
+            ≡ outcome_in task.cancelled
+            (stops_periodic self.now.shut self.now.stopped self.now.policies) task.timing
+            (due_past task.timing task.due self.now.moment) ending }
         ensures due { result.1 ≡ due_past task.timing task.due self.now.moment }
     {
         let next = next_due(task.timing, task.due, self.moment);
@@ -200,7 +218,8 @@ impl<A: Allocator> Core<A> {
 /// What the end of a run leads to, where the run after it would be due at `next`, and periodic tasks maybe do not go
 /// on: of a task that was cancelled the outcome does not count.
 fn outcome_in(cancelled: bool, stops: bool, next: Option<u64>, ending: Ending) -> Outcome
-    ensures { (timing : Timing) (due now : ℕ) → next ≡ next_due timing due now → result ≡ outcome_in cancelled stops timing (due_past timing due now) ending }
+    ensures { (timing : Timing) (due now : ℕ) → next ≡ next_due timing due now
+        → result ≡ outcome_in cancelled stops timing (due_past timing due now) ending }
 {
     match (ending, next) {
         _ if cancelled => Outcome::Dropped,
@@ -219,8 +238,11 @@ fn end_run<A: Allocator>(tasks: &mut Tasks<A>, task: usize, outcome: Outcome, du
     requires phase { (slice_index_or tasks.old task vacant).phase ≡ ph.Running }
     requires live { outcome ≢ o.Dropped → (slice_index_or tasks.old task vacant).cancelled ≡ false }
     requires run { (slice_index_or tasks.old task vacant).run + 1 < 2 ^ 32 }
-    requires again { is_again outcome ≡ true → is_periodic (slice_index_or tasks.old task vacant).timing ≡ true }
-    ensures { tasks.new ≡ slice_set tasks.old task (finished_task outcome due (slice_index_or tasks.old task vacant)) }
+    requires again { is_again outcome ≡ true
+        → is_periodic (slice_index_or tasks.old task vacant).timing ≡ true }
+    ensures { tasks.new
+        ≡ slice_set tasks.old task
+        (finished_task outcome due (slice_index_or tasks.old task vacant)) }
 {
     tasks.finish(task, outcome, due);
     if outcome == Outcome::Ended {

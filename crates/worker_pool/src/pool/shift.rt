@@ -45,7 +45,13 @@ impl<N: Named, A: Allocator> Shift<N, A> {
     pub fn new(book: Book<N, A>) -> Shift<N, A>
         requires within { book.core.taken ≤ book.core.limit }
         ensures new { seen result
-            ≡ record { book = book; stage = Stage.Closed; running = 0; fault = None; sleepers = no_sleepers } }
+            ≡ record {
+              book = book;
+              stage = Stage.Closed;
+              running = 0;
+              fault = None;
+              sleepers = no_sleepers;
+            } }
     {
         Shift {
             book,
@@ -59,9 +65,11 @@ impl<N: Named, A: Allocator> Shift<N, A> {
     /// Begins a run.
     pub fn open(&mut self) -> Result<(), PoolError>
         ensures running { IsErrOf result PoolError.Running ↔ ¬ (self.old.stage ≡ Stage.Closed) }
-        ensures fault { self.old.stage ≡ Stage.Closed → ForSome self.old.fault (λ e. result ≡ Err e) }
+        ensures fault { self.old.stage ≡ Stage.Closed
+            → ForSome self.old.fault (λ e. result ≡ Err e) }
         ensures others { IfErr result (λ e. (e ≡ PoolError.Running) ⊎ (self.old.fault ≡ Some e)) }
-        ensures kinds { IfErr result (λ e. (e ≡ PoolError.Running) ⊎ ((e ≡ PoolError.Full) ⊎ (e ≡ PoolError.Memory))) }
+        ensures kinds { IfErr result
+            (λ e. (e ≡ PoolError.Running) ⊎ ((e ≡ PoolError.Full) ⊎ (e ≡ PoolError.Memory))) }
         ensures opened { OnOk result ((self.new.stage ≡ Stage.Opening) × (self.old.fault ≡ None)) }
         ensures refused { OnErr result (self.new.stage ≡ self.old.stage) }
         ensures same { (self.new.book ≡ self.old.book) × (self.new.running ≡ self.old.running)
@@ -95,7 +103,9 @@ impl<N: Named, A: Allocator> Shift<N, A> {
     /// Who leads begins. Where some worker could not be made the run is refused for want of memory, and shows no moment.
     pub fn begin(&mut self, made: bool)
         ensures made { IsTrue made → seen self.new ≡ seen self.old }
-        ensures unmade { made ≡ false → (self.new.stage ≡ Stage.Leaving) × (self.new.fault ≡ Some (unwrap_or self.old.fault PoolError.Memory)) }
+        ensures unmade { made ≡ false
+            → (self.new.stage ≡ Stage.Leaving)
+            × (self.new.fault ≡ Some (unwrap_or self.old.fault PoolError.Memory)) }
         ensures same { (self.new.book ≡ self.old.book) × (self.new.running ≡ self.old.running)
             × (self.new.sleepers ≡ self.old.sleepers) }
     {
@@ -218,7 +228,9 @@ impl<N: Named, A: HeapAllocator> Shift<N, A> {
     /// Takes starts until one gets work, or there is no more of it.
     fn next(&mut self, shared: &Shared<A>, worker: u8) -> Next
         requires shared { (shared.now.table ≡ N.table) × (shared.now.cells ≡ N.cells) }
-        ensures decides { (count : ℕ) × (last : Under) × GetNothing worker count (seen self.old) last × Decides worker result last (seen self.new) }
+        ensures decides { (count : ℕ) × (last : Under)
+            × GetNothing worker count (seen self.old) last
+            × Decides worker result last (seen self.new) }
         ensures leaves { (result ≡ Next.Leave) ↔ (self.new.stage ≡ Stage.Leaving) }
         ensures limit { KeepsLimit (seen self.old) (seen self.new) }
         ensures fault { KeepsFault (seen self.old) (seen self.new) }
@@ -305,12 +317,16 @@ impl<N: Named, A: HeapAllocator> Shift<N, A> {
     /// The clock shows a moment, which ends no run and opens none.
     pub fn advance(&mut self, shared: &Shared<A>, moment: u64) -> Advanced
         requires shared { (shared.now.table ≡ N.table) × (shared.now.cells ≡ N.cells) }
-        ensures full { IsErrOf result.applied PoolError.Full ↔ (self.old.book.core.taken ≡ self.old.book.core.limit) }
+        ensures full { IsErrOf result.applied PoolError.Full
+            ↔ (self.old.book.core.taken ≡ self.old.book.core.limit) }
         ensures others { IfErr result.applied (λ e. (e ≡ PoolError.Full) ⊎ (e ≡ PoolError.Memory)) }
         ensures refused { OnErr result.applied (self.new.book ≡ self.old.book) }
-        ensures applied { IfOk result.applied (λ told. (did : Applies self.old.book self.new.book (v.Clock moment)) × Tells self.old.book self.new.book did.last told) }
+        ensures applied { IfOk result.applied
+            (λ told. (did : Applies self.old.book self.new.book (v.Clock moment))
+            × Tells self.old.book self.new.book did.last told) }
         ensures told { IfOk result.applied (λ told. (1 ≤ told.count) × (told.work ≡ None)) }
-        ensures wakes { Wakes result.wakes_one (record (seen self.old) { book = self.new.book }) (seen self.new) }
+        ensures wakes { Wakes result.wakes_one (record (seen self.old) { book = self.new.book })
+            (seen self.new) }
         ensures quiet { IsTrue result.wakes_leader ↔ IsQuiet (seen self.new) }
         ensures limit { KeepsLimit (seen self.old) (seen self.new) }
     {
@@ -330,11 +346,13 @@ impl<N: Named, A: HeapAllocator> Shift<N, A> {
         ensures seats { IsErrOf result PoolError.Seats ↔ (self.old.book.seat.out ≡ most_handles) }
         ensures others { IfErr result (λ e. (e ≡ PoolError.Seats) ⊎ (e ≡ PoolError.Memory)) }
         ensures refused { OnErr result (self.new.book ≡ self.old.book) }
-        ensures admitted { OnOk result (self.new.book ≡ record self.old.book { seat = one_out self.old.book.seat }) }
+        ensures admitted { OnOk result
+            (self.new.book ≡ record self.old.book { seat = one_out self.old.book.seat }) }
         ensures same { (self.new.stage ≡ self.old.stage) × (self.new.running ≡ self.old.running)
             × (self.new.fault ≡ self.old.fault) × (self.new.sleepers ≡ self.old.sleepers) }
         ensures handle { IfOk result (λ h. h.seat ≡ new_handle (length N.cells)) }
-        ensures notes { IfOk result (λ h. AreNotesOf h.notes N.cells × ((k : ℕ) → known_to h k ≡ None)) }
+        ensures notes { IfOk result
+            (λ h. AreNotesOf h.notes N.cells × ((k : ℕ) → known_to h k ≡ None)) }
     {
         self.book.admit(shared)
     }

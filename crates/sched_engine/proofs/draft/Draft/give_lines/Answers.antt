@@ -1,8 +1,8 @@
-use Rattle.std.proofs.Common.{[], ◌++◌, take, drop, subst, sym, append-nil, rules}
+use Rattle.std.proofs.Common.{◌≡◌, ◌++◌, take, drop, subst, rules}
 use Rattle.executor_core.specs.declared.Line.{Line}
 use Rattle.trace_text.specs.Spelling.{line_text, lines_text}
-use Rattle.sched_engine.specs.Pieces.{Gives, Output}
-use Rattle.sched_engine.proofs.Giving.{gives_both, gives_front, gives_put, lines_on, lines_split}
+use Rattle.sched_engine.specs.Pieces.{Output}
+use Rattle.sched_engine.proofs.Giving.{gives_front, gives_line, lines_split}
 use Rattle.byte_ends.proofs.Tries.{good_then_bad, good_then_good, no_try}
 use Rattle.sched_engine.proofs.draft.Draft.give_lines.Goals as goal
 
@@ -23,18 +23,12 @@ returns-then-not-make_room-clause-text g c =
 
 pub loop-line-preserved : goal.loop-line-preserved
 loop-line-preserved g c =
-    let lines = c.args.lines.now in
-    let i = c.loop-line.line-index in
-    let so_far = lines_text (take i lines) in
     let old : Output = record { contents = g.W.Sink.contents c.args.writer.now; text = c.args.self.now } in
     let here : Output = record { contents = g.W.Sink.contents c.loop-line.writer; text = c.loop-line.self } in
     let roomy : Output = record { contents = g.W.Sink.contents c.make_room.new.writer; text = c.make_room.new.self } in
-    let new : Output = record { contents = g.W.Sink.contents c.make_room.new.writer; text = c.put.new.self } in
-    let made = c.if-not-make_room.ensures.room.0 in
     let kept = c.loop-line.invariant in
-    let all : Gives old roomy so_far = subst (Gives old roomy) (append-nil so_far) (gives_both old here roomy so_far [] kept.given made) in
+    let is = subst (λ (line : Line). c.put.new.self ≡ roomy.text ++ line_text line) c.line-item.is c.put.ensures in
     record {
-      given = subst (Gives old new) (sym (lines_on lines i c.line-item.result c.loop-line-test.true))
-          (subst (λ (line : Line). Gives old new (so_far ++ line_text line)) c.line-item.is (gives_put old roomy so_far _ c.put.new.self all c.put.ensures));
+      given = gives_line old here roomy c.put.new.self c.args.lines.now c.loop-line.line-index c.line-item.result c.loop-line-test.true kept.given c.if-not-make_room.ensures.room.0 is;
       counts = good_then_good _ _ _ _ _ _ kept.counts c.if-not-make_room.ensures.counts;
     }
