@@ -14,3 +14,4 @@ pub mod EventTexts
 pub mod Fronts
 pub mod Counts
 pub mod Chains
+pub mod Messages

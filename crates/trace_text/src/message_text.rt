@@ -3,7 +3,7 @@ ghost use Rattle.std.specs.Prelude.{◌≡◌, ℕ, ◌+◌, ◌≤◌, length, 
 ghost use Rattle.trace_text.specs.Spelling.{message_text};
 ghost use Rattle.trace_text.specs.Writing.{Puts};
 ghost use Rattle.trace_text.specs.own.Messages.{is_common};
-ghost use Rattle.executor_core.specs.declared.Message.TheVariants as m;
+ghost use Rattle.executor_core.specs.declared.types.Message.TheVariants as m;
 ghost use Rattle.executor_core.specs.Said.{message_of};
 
 use crate::answer_text::{
@@ -110,15 +110,7 @@ fn put_rare(buffer: &mut [u8], at: usize, said: Said) -> usize
             put_finish(buffer, at, worker, task, run, Outcome::Ended)
         }
         Said::End(task) => put_end(buffer, at, task),
-        Said::Submit { .. }
-        | Said::Cancel { .. }
-        | Said::Outside { .. }
-        | Said::Clock
-        | Said::Start { .. }
-        | Said::Idle { .. }
-        | Said::Done { .. }
-        | Said::Again { .. }
-        | Said::Error(_) => unreachable!(),
+        _ => unreachable!(),
     }
 }
 

@@ -1,5 +1,5 @@
 //! The verdicts on tasks that are done or have failed, and the notes of their cells.
-ghost use Rattle.std.specs.Prelude.{◌≡◌, ◌≢◌, ◌⊎◌, ℕ, ◌<◌, ◌≤◌, Some, None, IfOk, IfSome, IfNone, IsSome, OnOk, OnErr, length, replicate, slice_index, slice_index_or};
+ghost use Rattle.std.specs.Prelude.{◌≡◌, ◌≢◌, ◌⊎◌, ℕ, ◌+◌, ◌<◌, ◌≤◌, Some, None, IfOk, IfSome, IfNone, IsSome, OnOk, OnErr, length, replicate, slice_index, slice_index_or};
 ghost use Rattle.once_cell.specs.declared.race.note.Note.{Note as CellNote};
 ghost use Rattle.result_cell.specs.declared.verdict.Verdict.{Verdict as Put};
 ghost use Rattle.result_cell.specs.Cells.{AreNotesOf, StaysKnown, known_at};
@@ -45,6 +45,8 @@ pub fn keep_room<A: HeapAllocator>(
     ensures finish { (worker : ℕ) (ending : Ended) → event ≡ v.Finish worker ending
         → OnOk result (1 ≤ length rooms.new.items) }
     ensures kept { 1 ≤ length rooms.old.items → rooms.new.items ≡ rooms.old.items }
+    ensures others { ((worker : ℕ) (ending : Ended) → event ≢ v.Finish worker ending)
+        → rooms.new.items ≡ rooms.old.items }
     ensures refused { OnErr result (rooms.new.items ≡ rooms.old.items) }
 {
     if rooms.is_empty() && matches!(event, Event::Finish(..)) {
@@ -114,6 +116,8 @@ pub fn settle<A: Allocator>(
     ensures told { IfSome (verdict_told answer)
         (λ v. IfNone result (HasNoteOf cells.now notes.new.items v)
         × IfSome result (λ back. back.value ≡ v)) }
+    ensures taken { IsSome (verdict_told answer)
+        → length rooms.new.items + 1 ≡ length rooms.old.items }
 {
     let Some(verdict) = verdict_of(answer) else {
         return None;

@@ -5,7 +5,7 @@ use Rattle.executor_core.specs.declared.said.Said.{Said}
 use Rattle.executor_core.specs.declared.said.Said.TheVariants as s
 
 -- what answers a task that is submitted, started, finished or cancelled, a clock, and an event without effect
-pub is_common : Said → Bool
+abbrev pub is_common : Said → Bool
 is_common (s.Submit _ _ _) = true
 is_common (s.Cancel _ _) = true
 is_common (s.Outside _ _) = true
