@@ -140,15 +140,17 @@ impl Said {
                 task,
                 run,
                 outcome,
-            } => { Said::of_finish(worker, task, run, outcome) }
+            } => { Said::finish(worker, task, run, outcome) }
             Answer::Error(error) => Said::Error(error),
         }
     }
 
     /// What the answer to a finish says.
     #[inline(always)]
-    fn of_finish(worker: u8, task: u32, run: u64, outcome: Outcome) -> Said
-        ensures { result ≡ said_of (message.Answer (answer.Finish worker task run outcome)) }
+    pub fn finish(worker: u8, task: u32, run: u64, outcome: Outcome) -> Said
+        ensures said { result ≡ said_of (message.Answer (answer.Finish worker task run outcome)) }
+        ensures message { message_of result
+            ≡ message.Answer (answer.Finish worker task run outcome) }
     {
         match outcome {
             Outcome::Done(value) => Said::Done {

@@ -231,6 +231,14 @@ impl Line {
         }
     }
 
+    /// A line that says this, which is told without nesting: nothing is taken apart.
+    #[inline(always)]
+    pub fn saying(moment: u64, said: Said) -> Line
+        ensures { result ≡ record { moment = moment; message = message_of said } }
+    {
+        Line { moment, said }
+    }
+
     /// The moment, in nanoseconds: up to 2^62 where a core made the line.
     #[inline(always)]
     pub fn moment(self) -> u64
@@ -249,10 +257,10 @@ impl Line {
 
     /// What it says, without nesting, as the line keeps it: nothing is put together.
     #[inline(always)]
-    pub fn said(self) -> Said
-        ensures { message_of result ≡ self.message }
+    pub fn said(&self) -> &Said
+        ensures { message_of result.now ≡ self.now.message }
     {
-        self.said
+        &self.said
     }
 }
 

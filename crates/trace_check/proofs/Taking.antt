@@ -1,5 +1,5 @@
 -- One line more: what a check does on its state is what the lines that go ask.
-use Rattle.std.proofs.Common.{◌≡◌, ℕ, ◌+◌, ◌<◌, ◌≤◌, Bool, false, List, [], ◌∷◌, ◌++◌, drop, length, get_or, Some, refl, sym, ap, ◌∙◌, subst, arith}
+use Rattle.std.proofs.Common.{◌≡◌, ℕ, ◌+◌, ◌<◌, ◌≤◌, Bool, false, List, [], ◌∷◌, ◌++◌, drop, length, get_or, Some, None, refl, sym, ap, ◌∙◌, subst, arith}
 use Rattle.std.specs.Prelude.{slice_get, slice_index_or}
 use Rattle.std.proofs.lemmas.List.{drop_more}
 use Rattle.std.proofs.Math.ListN.{drop_of_length-le}
@@ -16,9 +16,9 @@ use Rattle.executor_core.specs.State.{State, view_of_state, next, reply_of}
 use Rattle.executor_core.specs.Flows.{answer_line, end_line, lines_at}
 use Rattle.executor_core.specs.CoreView.{CoreView, workers_of, state_of, Counts, Steps, IsOpening}
 use Rattle.executor_core.proofs.Agree.{after_agrees}
-use Rattle.trace_check.specs.Representatives.{busy_by, representative_of}
+use Rattle.trace_check.specs.Representatives.{busy_by, busy_after, representative_of}
 use Rattle.trace_check.specs.Going.{Goes, IsNextAnswer, StandsNext}
-use Rattle.trace_check.specs.own.Standing.{IsAt, IsStanding, TellBusy, most_named}
+use Rattle.trace_check.specs.own.Standing.{IsAt, IsStanding, TellBusy, most_named, representative_of_message}
 use Rattle.trace_check.proofs.Splits.{ends_at, mains, owed_ends, same_said, goes_owed, goes_answered, goes_line_by_line}
 
 -- the state of a check shows what the history shows
@@ -184,3 +184,47 @@ pub opens : (m : CoreView) (planned : List Planned) (workers most : ℕ) (due : 
 opens m planned workers most due flags opening none free =
     subst (λ d. IsStanding m d flags []) (sym none)
     (record { goes = record { past = []; means = tt; representative = refl; owed = []; front = refl }; stands = opening.stands; owed = refl; busy = free })
+
+-- ---- a line where nothing is owed, whatever it says
+
+-- one without a representative is refused
+pub refuses_unknown : (calls : List Planned) (workers : ℕ) (s : State) (lines : List Line) (flags : List Bool) (line : Line) → IsAt calls workers s [] flags lines →
+    ((h : Happening) → representative_of_message workers lines line.moment line.message ≡ Some h → ⊥) → Goes calls workers (line ∷ lines) → ⊥
+refuses_unknown calls workers s lines flags line at none = by line.moment line.message none
+  where
+    by : (moment : ℕ) (message : Message) → ((h : Happening) → representative_of_message workers lines moment message ≡ Some h → ⊥) → Goes calls workers (record { moment = moment; message = message } ∷ lines) → ⊥
+    by moment (m.Answer said) none = refuses_plain calls workers s lines flags moment said at none
+    by moment (m.End task) none = refuses_end calls workers s moment task lines flags at
+
+-- one whose representative may not come is refused
+pub refuses_early : (calls : List Planned) (workers : ℕ) (s : State) (lines : List Line) (flags : List Bool) (line : Line) (h : Happening) → IsAt calls workers s [] flags lines →
+    Some h ≡ representative_of_message workers lines line.moment line.message → (MayFrom calls s.made s.moment h → ⊥) → Goes calls workers (line ∷ lines) → ⊥
+refuses_early calls workers s lines flags line h at is never = by line.moment line.message is
+  where
+    by : (moment : ℕ) (message : Message) → Some h ≡ representative_of_message workers lines moment message → Goes calls workers (record { moment = moment; message = message } ∷ lines) → ⊥
+    by moment (m.Answer said) is = refuses_coming calls workers s lines flags moment said h at is never
+    by moment (m.End task) is = refuses_end calls workers s moment task lines flags at
+
+-- one that the representative does not get is refused
+pub refuses_other : (calls : List Planned) (workers : ℕ) (s : State) (lines : List Line) (flags : List Bool) (line : Line) (h : Happening) → IsAt calls workers s [] flags lines →
+    Some h ≡ representative_of_message workers lines line.moment line.message → (answer_line (next calls workers s h).moment (reply_of calls workers s h).answer ≡ line → ⊥) → Goes calls workers (line ∷ lines) → ⊥
+refuses_other calls workers s lines flags line h at is other = by line.moment line.message is other
+  where
+    by : (moment : ℕ) (message : Message) → Some h ≡ representative_of_message workers lines moment message
+        → (answer_line (next calls workers s h).moment (reply_of calls workers s h).answer ≡ record { moment = moment; message = message } → ⊥) → Goes calls workers (record { moment = moment; message = message } ∷ lines) → ⊥
+    by moment (m.Answer said) is other = refuses_line calls workers s lines flags moment said h at is other
+    by moment (m.End task) is other = refuses_end calls workers s moment task lines flags at
+
+no_happening : (h : Happening) → Some h ≡ None → ⊥
+no_happening h is = absurd cc
+
+-- one that the representative gets is taken
+pub takes_line : (m n : CoreView) (out lines : List Line) (flags after_flags : List Bool) (line : Line) (h : Happening) (d : Line) → IsStanding m [] flags lines →
+    Some h ≡ representative_of_message (workers_of m) lines line.moment line.message → MayFrom m.calls m.made m.moment h → Took m n h out → get_or out 0 d ≡ line →
+    ((w : ℕ) → w < most_named → slice_index_or after_flags w false ≡ busy_after w line.message (slice_index_or flags w false)) → IsStanding n (drop 1 out) after_flags (line ∷ lines)
+takes_line core n out lines flags after_flags line h d at is may t same flags_are = by line.moment line.message is same flags_are
+  where
+    by : (moment : ℕ) (message : Message) → Some h ≡ representative_of_message (workers_of core) lines moment message → get_or out 0 d ≡ record { moment = moment; message = message }
+        → ((w : ℕ) → w < most_named → slice_index_or after_flags w false ≡ busy_after w message (slice_index_or flags w false)) → IsStanding n (drop 1 out) after_flags (record { moment = moment; message = message } ∷ lines)
+    by moment (m.Answer said) is same flags_are = takes_said core n out lines flags after_flags moment said h d at is may t same flags_are
+    by moment (m.End task) is same flags_are = absurd (no_happening h is)

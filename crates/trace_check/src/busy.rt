@@ -1,11 +1,12 @@
 //! Which workers are busy by the lines of a trace, and the representative of a line.
 ghost use Rattle.std.specs.Prelude.{◌≡◌, ℕ, ◌<◌, Bool, true, false, not, if◌then◌else◌, slice_index_or, List};
 ghost use Rattle.std.specs.List.{range_with_len, find};
-ghost use Rattle.trace_check.specs.Representatives.{busy_by, representative_of, representative_of_error, representative_ending};
-ghost use Rattle.trace_check.specs.own.Standing.{TellBusy, most_named};
-ghost use Rattle.executor_core.specs.declared.types.Line.{Line as Said};
+ghost use Rattle.trace_check.specs.Representatives.{busy_after, representative_of_error};
+ghost use Rattle.trace_check.specs.own.Standing.{TellBusy, most_named, representative_of_message};
+ghost use Rattle.executor_core.specs.declared.types.Line.{Line as Told};
+ghost use Rattle.executor_core.specs.Said.{message_of};
 
-use executor_core::{Answer, EventError, Happening, Outcome};
+use executor_core::{EventError, Happening, Said};
 use sched_time::{Ending, LONGEST};
 
 /// How many workers a line can name.
@@ -30,16 +31,20 @@ impl Busy {
         }
     }
 
-    /// Notes an answer.
-    pub fn note(&mut self, answer: &Answer)
+    /// Notes what a line says.
+    pub fn note(&mut self, said: &Said)
         ensures workers { self.new.workers ≡ self.old.workers }
         ensures flags { (w : ℕ) → w < most_named
             → slice_index_or self.new.flags w false
-            ≡ busy_by w answer.now (slice_index_or self.old.flags w false) }
+            ≡ busy_after w (message_of said.now) (slice_index_or self.old.flags w false) }
     {
-        match answer {
-            Answer::Start { worker, .. } => self.flags[*worker as usize] = true,
-            Answer::Finish { worker, .. } => self.flags[*worker as usize] = false,
+        match *said {
+            Said::Start { worker, .. } => self.flags[worker as usize] = true,
+            Said::Done { worker, .. }
+            | Said::Failed { worker, .. }
+            | Said::Again { worker, .. }
+            | Said::Dropped { worker, .. }
+            | Said::Ended { worker, .. } => self.flags[worker as usize] = false,
             _ => {}
         }
     }
@@ -63,23 +68,26 @@ impl Busy {
         None
     }
 
-    /// A happening that gets this answer at this moment.
-    pub fn representative(&self, moment: u64, answer: &Answer) -> Option<Happening>
-        ensures { (lines : List Said) → TellBusy self.now.flags lines
-            → result ≡ representative_of self.now.workers lines moment answer.now }
+    /// A happening that gets this answer at this moment. The end of a task, which is no answer, has none.
+    pub fn representative(&self, moment: u64, said: &Said) -> Option<Happening>
+        ensures { (lines : List Told) → TellBusy self.now.flags lines → result
+            ≡ representative_of_message self.now.workers lines moment (message_of said.now) }
     {
-        match answer {
-            Answer::Outside { task, .. } => Some(Happening::Cancel(*task)),
-            Answer::Clock => Some(Happening::Clock(moment)),
-            Answer::Start { worker, .. } | Answer::Idle { worker } => {
-                Some(Happening::Start(*worker))
+        match *said {
+            Said::Outside { task, .. } => Some(Happening::Cancel(task)),
+            Said::Clock => Some(Happening::Clock(moment)),
+            Said::Start { worker, .. } | Said::Idle { worker } => Some(Happening::Start(worker)),
+            Said::Done { worker, value, .. } => {
+                Some(Happening::Finish(worker, Ending::Value(value)))
             }
-            Answer::Finish {
-                worker,
-                outcome,
-                ..
-            } => Some(Happening::Finish(*worker, representative_ending(*outcome))),
-            Answer::Error(error) => self.representative_of_error(*error),
+            Said::Failed { worker, code, .. } => {
+                Some(Happening::Finish(worker, Ending::Fault(code)))
+            }
+            Said::Again { worker, .. }
+            | Said::Dropped { worker, .. }
+            | Said::Ended { worker, .. } => Some(Happening::Finish(worker, Ending::Value(0))),
+            Said::Error(error) => self.representative_of_error(error),
+            Said::End(_) => None,
             // Each other answer is that of a call.
             _ => Some(Happening::Call),
         }
@@ -87,7 +95,7 @@ impl Busy {
 
     /// An event that gets this error.
     fn representative_of_error(&self, error: EventError) -> Option<Happening>
-        ensures { (lines : List Said) → TellBusy self.now.flags lines
+        ensures { (lines : List Told) → TellBusy self.now.flags lines
             → result ≡ representative_of_error self.now.workers lines error }
     {
         match error {
@@ -101,16 +109,5 @@ impl Busy {
             }
             EventError::NoTask => Some(Happening::Cancel(4_294_967_295)),
         }
-    }
-}
-
-/// An ending of a run that leads to this outcome.
-fn representative_ending(outcome: Outcome) -> Ending
-    ensures { result ≡ representative_ending outcome }
-{
-    match outcome {
-        Outcome::Done(value) => Ending::Value(value),
-        Outcome::Failed(code) => Ending::Fault(code),
-        Outcome::Again(_) | Outcome::Dropped | Outcome::Ended => Ending::Value(0),
     }
 }

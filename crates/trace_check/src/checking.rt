@@ -3,7 +3,6 @@ ghost use Rattle.std.specs.Prelude.{◌≡◌, ℕ, ◌+◌, ◌<◌, ◌≤◌,
 ghost use Rattle.plan_compile.specs.PlanCalls.{calls_of_plan};
 ghost use Rattle.executor_core.specs.Counts.{IsWorkerCount};
 ghost use Rattle.executor_core.specs.CoreView.{workers_of, IsOpening};
-ghost use Rattle.executor_core.specs.Flows.{answer_line};
 ghost use Rattle.executor_core.specs.declared.types.Line.{Line as Said};
 ghost use Rattle.trace_check.specs.Going.{Goes};
 ghost use Rattle.trace_check.specs.Findings.{Finds};
@@ -13,7 +12,7 @@ ghost use Rattle.trace_check.specs.own.Standing.{TellBusy, IsStanding, IsReady, 
 use crate::busy::Busy;
 use crate::error::CheckError;
 use crate::finding::Finding;
-use executor_core::{Answer, Core, Line, MOST_WORKERS, Message, line_equality_tells};
+use executor_core::{Core, Line, MOST_WORKERS, line_equality_tells};
 use plan_compile::compile;
 use plan_read::Plan;
 use std::alloc::Allocator;
@@ -128,31 +127,27 @@ impl<A: Allocator> Checker<A> {
             self.met += 1;
             return true;
         }
-        match line.message() {
-            Message::Answer(said) => self.take_answer(line.moment(), &said),
-            Message::End(_) => false,
-        }
+        self.take_answer(line)
     }
 
-    /// Takes the next line, an answer given at a moment, where nothing is owed.
-    fn take_answer(&mut self, moment: u64, said: &Answer) -> bool
+    /// Takes the next line where nothing is owed: an answer.
+    fn take_answer(&mut self, line: &Line) -> bool
         requires ready { IsReady self.old.core self.old.busy.workers (vec_capacity self.old.out) }
         requires some { self.old.core.taken < self.old.core.limit }
         ensures goes { IsTrue result → (lines : List Said)
             → IsStanding self.old.core [] self.old.busy.flags lines
             → IsStanding self.new.core (drop self.new.met self.new.out.items) self.new.busy.flags
-            (answer_line moment said.now ∷ lines) }
+            (line.now ∷ lines) }
         ensures breaks { result ≡ false → (lines : List Said)
             → IsStanding self.old.core [] self.old.busy.flags lines
-            → Goes self.old.core.calls (workers_of self.old.core)
-            (answer_line moment said.now ∷ lines) → ⊥ }
+            → Goes self.old.core.calls (workers_of self.old.core) (line.now ∷ lines) → ⊥ }
         ensures calls { self.new.core.calls ≡ self.old.core.calls }
         ensures workers { workers_of self.new.core ≡ workers_of self.old.core }
         ensures ready { IsReady self.new.core self.new.busy.workers (vec_capacity self.new.out) }
         ensures limit { self.new.core.limit ≡ self.old.core.limit }
         ensures taken { self.new.core.taken ≤ self.old.core.taken + 1 }
     {
-        let Some(happening) = self.busy.representative(moment, said) else {
+        let Some(happening) = self.busy.representative(line.moment(), line.said()) else {
             return false;
         };
         if !self.core.may_come(happening) {
@@ -162,11 +157,10 @@ impl<A: Allocator> Checker<A> {
         self.out.clear();
         self.core.happen(happening, &mut self.out);
         self.met = 1;
-        let line = Line::new(moment, Message::Answer(*said));
-        if !is_same(&self.out[0], &line) {
+        if !is_same(&self.out[0], line) {
             return false;
         }
-        self.busy.note(said);
+        self.busy.note(line.said());
         true
     }
 }

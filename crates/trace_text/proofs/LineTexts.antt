@@ -9,9 +9,9 @@ use Rattle.executor_core.specs.declared.Answer.TheVariants as a
 use Rattle.executor_core.specs.declared.Message.{Message}
 use Rattle.executor_core.specs.declared.Message.TheVariants.{Answer, End}
 use Rattle.executor_core.specs.declared.Line.{Line}
-use Rattle.trace_text.specs.Spelling.{message_text, error_text, outcome_text, cancel_text, line_text, FitsMessage, FitsLine}
+use Rattle.trace_text.specs.Spelling.{message_text, error_text, outcome_text, cancel_text, line_text, FitsMessage, FitsLine, FitsOutcome}
 use Rattle.trace_text.specs.own.Spelling.{FitsCancel}
-use Rattle.trace_text.specs.Reading.{IsUnread, LinesAreOne, EndsNumber, Below, Any, text_then}
+use Rattle.trace_text.specs.Reading.{IsRead, IsUnread, LinesAreOne, EndsNumber, Below, Any, text_then}
 use Rattle.trace_text.proofs.Digits.{one_number}
 use Rattle.trace_text.proofs.Clashes.{clash, clashes}
 use Rattle.trace_text.proofs.Parts.{IsOnce}
@@ -164,3 +164,21 @@ pub unread_message : (bytes rest : List ℕ) (n : ℕ) → bytes ≡ decimal n +
 unread_message bytes rest n is ends small never line tail f h =
     never line.message tail f.1
     (one_number n line.moment rest (message_text line.message ++ tail) small f.0 ends (message_ends line.message tail) (sym is ∙ (h ∙ append_assoc (decimal line.moment) (message_text line.message) tail))).1
+
+-- a finish, whose worker, task, run and outcome are read one behind the other
+pub read_finish : (bytes b c d rest : List ℕ) (w k n : ℕ) (o : Outcome) → IsRead (text_then decimal (codes " task ")) (Below (2 ^ 8)) bytes w b → IsRead (text_then decimal (codes " run ")) (Below (2 ^ 32)) b k c
+    → IsRead (text_then decimal (codes " ")) (Below (2 ^ 64)) c n d → IsRead outcome_text FitsOutcome (codes " " ++ d) o rest → IsRead message_text FitsMessage (codes " finish " ++ bytes) (Answer (a.Finish w k n o)) rest
+read_finish bytes b c d rest w k n o worker task run outcome =
+    let ended : c ≡ decimal n ++ (outcome_text o ++ rest) = run.1 ∙ (append_assoc (decimal n) (codes " ") d ∙ ap (λ l. decimal n ++ l) outcome.1) in
+    let tasked : b ≡ decimal k ++ (codes " run " ++ (decimal n ++ (outcome_text o ++ rest))) = task.1 ∙ (append_assoc (decimal k) (codes " run ") c ∙ ap (λ l. decimal k ++ (codes " run " ++ l)) ended) in
+    let worked : bytes ≡ decimal w ++ (codes " task " ++ (decimal k ++ (codes " run " ++ (decimal n ++ (outcome_text o ++ rest))))) =
+    worker.1 ∙ (append_assoc (decimal w) (codes " task ") b ∙ ap (λ l. decimal w ++ (codes " task " ++ l)) tasked) in
+    let on_run : codes " run " ++ (decimal n ++ (outcome_text o ++ rest)) ≡ (codes " run " ++ (decimal n ++ outcome_text o)) ++ rest =
+    ap (λ l. codes " run " ++ l) (sym (append_assoc (decimal n) (outcome_text o) rest)) ∙ sym (append_assoc (codes " run ") (decimal n ++ outcome_text o) rest) in
+    let of_task = decimal k ++ (codes " run " ++ (decimal n ++ outcome_text o)) in
+    let on_task : codes " task " ++ (decimal k ++ (codes " run " ++ (decimal n ++ (outcome_text o ++ rest)))) ≡ (codes " task " ++ of_task) ++ rest =
+    ap (λ l. codes " task " ++ l) (ap (λ l. decimal k ++ l) on_run ∙ sym (append_assoc (decimal k) (codes " run " ++ (decimal n ++ outcome_text o)) rest)) ∙ sym (append_assoc (codes " task ") of_task rest) in
+    let of_worker = decimal w ++ (codes " task " ++ of_task) in
+    let whole : codes " finish " ++ bytes ≡ (codes " finish " ++ of_worker) ++ rest =
+    ap (λ l. codes " finish " ++ l) (worked ∙ (ap (λ l. decimal w ++ l) on_task ∙ sym (append_assoc (decimal w) (codes " task " ++ of_task) rest))) ∙ sym (append_assoc (codes " finish ") of_worker rest) in
+    ((worker.0, task.0, run.0, outcome.0), whole)

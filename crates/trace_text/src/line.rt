@@ -33,10 +33,10 @@ pub fn split_line(bytes: &[u8]) -> Option<(Line, &[u8])>
     let Some((moment, rest)) = split_number_by_loop(bytes) else {
         return None;
     };
-    let Some((message, rest)) = split_message(rest) else {
+    let Some((said, rest)) = split_message(rest) else {
         return None;
     };
-    Some((Line::new(moment, message), rest))
+    Some((Line::saying(moment, said), rest))
 }
 
 #[cfg(test)]

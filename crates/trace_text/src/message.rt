@@ -1,5 +1,6 @@
 //! What the lines of a trace say behind their moments, read with the newline.
 ghost use Rattle.std.specs.Prelude.{MatchOption, ◌++◌, codes};
+ghost use Rattle.executor_core.specs.Said.{message_of};
 ghost use Rattle.trace_text.specs.Spelling.{message_text, FitsMessage};
 ghost use Rattle.trace_text.specs.Reading.{IsRead, IsUnread};
 
@@ -9,14 +10,14 @@ use crate::answer::{
 };
 use crate::scan::{code_before, strip_word};
 use crate::words::split_error;
-use executor_core::{Answer, Message};
+use executor_core::Said;
 
 /// What a line says whose text behind its moment stands at the front of some bytes, and what follows its newline. The words that
 /// stand in a trace most often are looked for first.
 #[inline(always)]
-pub fn split_message(bytes: &[u8]) -> Option<(Message, &[u8])>
+pub fn split_message(bytes: &[u8]) -> Option<(Said, &[u8])>
     ensures { MatchOption result (IsUnread message_text FitsMessage bytes.now)
-        (λ r. IsRead message_text FitsMessage bytes.now r.0 r.1.now) }
+        (λ r. IsRead message_text FitsMessage bytes.now (message_of r.0) r.1.now) }
 {
     if let Some(rest) = strip_word(bytes, *b" start ") {
         return split_start(rest);
@@ -25,7 +26,7 @@ pub fn split_message(bytes: &[u8]) -> Option<(Message, &[u8])>
         return split_finish(rest);
     }
     if let Some(rest) = strip_word(bytes, *b" clock\n") {
-        return Some((Message::Answer(Answer::Clock), rest));
+        return Some((Said::Clock, rest));
     }
     if let Some(rest) = strip_word(bytes, *b" submit ") {
         return split_submit(rest);
@@ -35,11 +36,11 @@ pub fn split_message(bytes: &[u8]) -> Option<(Message, &[u8])>
     }
     if let Some(rest) = strip_word(bytes, *b" outside ") {
         let ((task, effect), rest) = split_cancel(rest)?;
-        return Some((Message::Answer(Answer::Outside { task, effect }), rest));
+        return Some((Said::Outside { effect, task }, rest));
     }
     if let Some(rest) = strip_word(bytes, *b" cancel ") {
         let ((task, effect), rest) = split_cancel(rest)?;
-        return Some((Message::Answer(Answer::Cancel { task, effect }), rest));
+        return Some((Said::Cancel { effect, task }, rest));
     }
     if let Some(rest) = strip_word(bytes, *b" refuse ") {
         return split_refuse(rest);
@@ -61,10 +62,11 @@ pub fn split_message(bytes: &[u8]) -> Option<(Message, &[u8])>
 
 /// The end of the task that stands at the front, and what follows its newline.
 #[inline(always)]
-fn split_end(bytes: &[u8]) -> Option<(Message, &[u8])>
+fn split_end(bytes: &[u8]) -> Option<(Said, &[u8])>
     ensures { MatchOption result (IsUnread message_text FitsMessage (codes " end " ++ bytes.now))
-        (λ r. IsRead message_text FitsMessage (codes " end " ++ bytes.now) r.0 r.1.now) }
+        (λ r. IsRead message_text FitsMessage (codes " end " ++ bytes.now) (message_of r.0)
+        r.1.now) }
 {
     let (task, rest) = code_before(bytes, b"\n")?;
-    Some((Message::End(task), rest))
+    Some((Said::End(task), rest))
 }

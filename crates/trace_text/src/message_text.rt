@@ -16,13 +16,13 @@ use executor_core::{Outcome, Said};
 /// Puts what a line says at a place of a buffer, and returns where it ends: at most [`ANSWER_ROOM`] bytes on, which have to be
 /// there. What most lines say is put here, all else by a call: the compiler keeps no more than this in one place.
 #[inline(always)]
-pub fn put_said(buffer: &mut [u8], at: usize, said: Said) -> usize
+pub fn put_said(buffer: &mut [u8], at: usize, said: &Said) -> usize
     requires { at + ANSWER_ROOM ≤ length buffer.old }
     ensures end { result ≤ at + ANSWER_ROOM }
     ensures put { Puts (take at buffer.old) (take result buffer.new)
-        (message_text (message_of said)) }
+        (message_text (message_of said.now)) }
 {
-    match said {
+    match *said {
         Said::Submit { kind, task, due } => put_submit(buffer, at, task, kind, due),
         Said::Cancel { effect, task } => {
             let at = put_text(buffer, at, *b" cancel ");
@@ -53,39 +53,39 @@ pub fn put_said(buffer: &mut [u8], at: usize, said: Said) -> usize
             due,
         } => put_again(buffer, at, worker, task, run, due),
         Said::Error(error) => put_error(buffer, at, error),
-        rare => put_rare(buffer, at, rare),
+        _ => put_rare(buffer, at, said),
     }
 }
 
 /// As [`put_said`], with a start put where it is called: for a loop over many lines.
 #[inline(always)]
-pub fn put_said_here(buffer: &mut [u8], at: usize, said: Said) -> usize
+pub fn put_said_here(buffer: &mut [u8], at: usize, said: &Said) -> usize
     requires { at + ANSWER_ROOM ≤ length buffer.old }
     ensures end { result ≤ at + ANSWER_ROOM }
     ensures put { Puts (take at buffer.old) (take result buffer.new)
-        (message_text (message_of said)) }
+        (message_text (message_of said.now)) }
 {
-    match said {
+    match *said {
         Said::Start {
             worker,
             task,
             run,
             due,
         } => put_start_here(buffer, at, worker, task, run, due),
-        other => put_said(buffer, at, other),
+        _ => put_said(buffer, at, said),
     }
 }
 
 /// Puts what few lines say.
 #[inline(never)]
-fn put_rare(buffer: &mut [u8], at: usize, said: Said) -> usize
-    requires rare { is_common said ≡ false }
+fn put_rare(buffer: &mut [u8], at: usize, said: &Said) -> usize
+    requires rare { is_common said.now ≡ false }
     requires room { at + ANSWER_ROOM ≤ length buffer.old }
     ensures end { result ≤ at + ANSWER_ROOM }
     ensures put { Puts (take at buffer.old) (take result buffer.new)
-        (message_text (message_of said)) }
+        (message_text (message_of said.now)) }
 {
-    match said {
+    match *said {
         Said::Refuse { refusal, task } => put_refuse(buffer, at, task, refusal),
         Said::Policy { which, value } => put_policy(buffer, at, which, value),
         Said::Shutdown => put_text(buffer, at, *b" shutdown\n"),

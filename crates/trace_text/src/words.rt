@@ -1,11 +1,12 @@
 //! Words that lines of a trace end with, or that stand between two numbers of them, with what is fixed behind them.
 ghost use Rattle.std.specs.Prelude.{MatchOption, ◌++◌, codes};
+ghost use Rattle.executor_core.specs.Said.{message_of};
 ghost use Rattle.trace_text.specs.Spelling.{message_text, FitsMessage, outcome_text, FitsOutcome, kind_text, refusal_text, effect_text, whether_text};
 ghost use Rattle.sched_time.specs.Policies.{policy_text, truth_text};
 ghost use Rattle.trace_text.specs.Reading.{IsRead, IsUnread, Any, text_then};
 
 use crate::scan::{code_before, number_before, strip, strip_word};
-use executor_core::{Answer, CancelEffect, EventError, Kind, Message, Outcome, Refusal};
+use executor_core::{CancelEffect, EventError, Kind, Outcome, Refusal, Said};
 use sched_time::Which;
 
 /// The word of [`Which::Continue`].
@@ -155,27 +156,28 @@ pub fn split_whether<'a>(bytes: &'a [u8], word: &[u8]) -> Option<(bool, &'a [u8]
 }
 
 /// An event that had no effect, of which these bytes follow ` error `, to the newline, and what follows it.
-pub fn split_error(bytes: &[u8]) -> Option<(Message, &[u8])>
+pub fn split_error(bytes: &[u8]) -> Option<(Said, &[u8])>
     ensures { MatchOption result (IsUnread message_text FitsMessage (codes " error " ++ bytes.now))
-        (λ r. IsRead message_text FitsMessage (codes " error " ++ bytes.now) r.0 r.1.now) }
+        (λ r. IsRead message_text FitsMessage (codes " error " ++ bytes.now) (message_of r.0)
+        r.1.now) }
 {
     if let Some(rest) = strip_word(bytes, *b"busy\n") {
-        return Some((Message::Answer(Answer::Error(EventError::Busy)), rest));
+        return Some((Said::Error(EventError::Busy), rest));
     }
     if let Some(rest) = strip_word(bytes, *b"backward\n") {
-        return Some((Message::Answer(Answer::Error(EventError::Backward)), rest));
+        return Some((Said::Error(EventError::Backward), rest));
     }
     if let Some(rest) = strip_word(bytes, *b"too far\n") {
-        return Some((Message::Answer(Answer::Error(EventError::TooFar)), rest));
+        return Some((Said::Error(EventError::TooFar), rest));
     }
     if let Some(rest) = strip_word(bytes, *b"no worker\n") {
-        return Some((Message::Answer(Answer::Error(EventError::NoWorker)), rest));
+        return Some((Said::Error(EventError::NoWorker), rest));
     }
     if let Some(rest) = strip_word(bytes, *b"not running\n") {
-        return Some((Message::Answer(Answer::Error(EventError::NotRunning)), rest));
+        return Some((Said::Error(EventError::NotRunning), rest));
     }
     if let Some(rest) = strip_word(bytes, *b"no task\n") {
-        return Some((Message::Answer(Answer::Error(EventError::NoTask)), rest));
+        return Some((Said::Error(EventError::NoTask), rest));
     }
     None
 }

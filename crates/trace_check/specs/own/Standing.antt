@@ -1,12 +1,15 @@
 -- Beside `specs/Standing`: what only private contracts and proofs cite.
 -- All of it is this project's rule.
-use Rattle.std.specs.Prelude.{◌≡◌, ℕ, ◌<◌, ◌≤◌, Bool, false, List, slice_index_or}
+use Rattle.std.specs.Prelude.{◌≡◌, ℕ, ◌<◌, ◌≤◌, Bool, false, List, Option, None, slice_index_or}
 use Rattle.queue_code.specs.Calls.{Planned}
+use Rattle.executor_core.specs.declared.types.Happening.{Happening}
 use Rattle.executor_core.specs.declared.types.Line.{Line}
+use Rattle.executor_core.specs.declared.types.Message.{Message}
+use Rattle.executor_core.specs.declared.types.Message.TheVariants as m
 use Rattle.executor_core.specs.Histories.{happenings}
 use Rattle.executor_core.specs.State.{State, after}
 use Rattle.executor_core.specs.CoreView.{CoreView, workers_of, state_of, room_of}
-use Rattle.trace_check.specs.Representatives.{is_busy}
+use Rattle.trace_check.specs.Representatives.{is_busy, representative_of}
 use Rattle.trace_check.specs.Going.{Goes}
 
 -- how many happenings the core of a check takes
@@ -36,3 +39,8 @@ IsStanding m due flags lines = IsAt m.calls (workers_of m) (state_of m) due flag
 pub record IsReady (m : CoreView) (workers capacity : ℕ) : Type 0 where
   pub count : workers ≡ workers_of m
   pub room : room_of m ≤ capacity
+
+-- a happening that gets what a line says at this moment, behind these lines: the end of a task, which is no answer, has none
+abbrev pub representative_of_message : ℕ → List Line → ℕ → Message → Option Happening
+representative_of_message workers before moment (m.Answer answer) = representative_of workers before moment answer
+representative_of_message workers before moment (m.End task) = None

@@ -5,7 +5,7 @@ use Rattle.trace_text.specs.Reading.{Below}
 use Rattle.trace_text.proofs.Parts.{first_part}
 use Rattle.trace_text.proofs.LineForms.{task_ended_text, FitsTaskEnded, ended_text, FitsEnded, behind_ended_worker, behind_ended_task, behind_ended_run}
 use Rattle.trace_text.proofs.LineWords.{outcome_words, unread_outcome}
-use Rattle.trace_text.proofs.LineTexts.{unread_finish}
+use Rattle.trace_text.proofs.LineTexts.{read_finish, unread_finish}
 use Rattle.trace_text.proofs.answer.split_finish.Goals as goal
 
 pub returns-in_default : goal.returns-in_default
@@ -33,3 +33,9 @@ returns-in_default-split_outcome c =
     (behind_ended_task c.in-Some.rest.now c.in-Some-code_before.rest.now c.in-Some-code_before.task c.in-Some-code_before.ensures
     (behind_ended_run c.in-Some-code_before.rest.now c.in-Some-number_before.rest.now c.in-Some-number_before.run' c.in-Some-number_before.ensures
     (unread_outcome c.in-Some-number_before.rest.now c.in_default-split_outcome.ensures))))
+
+pub returns : goal.returns
+returns c =
+    rw c.finish.ensures.message
+    (read_finish c.args.bytes.now c.in-Some.rest.now c.in-Some-code_before.rest.now c.in-Some-number_before.rest.now c.in-Some-split_outcome.rest.now c.in-Some.worker c.in-Some-code_before.task
+    c.in-Some-number_before.run' c.in-Some-split_outcome.outcome c.in-Some.ensures c.in-Some-code_before.ensures c.in-Some-number_before.ensures c.in-Some-split_outcome.ensures)

@@ -5,6 +5,6 @@ pub put_rare-requires : goal.put_rare-requires
 put_rare-requires c =
     let not = c.in_default in
     record {
-      rare = uncommon c.args.said not.not-Submit not.not-Cancel not.not-Outside not.not-Clock not.not-Start not.not-Idle not.not-Done not.not-Again not.not-Error;
+      rare = uncommon c.args.said.now not.not-Submit not.not-Cancel not.not-Outside not.not-Clock not.not-Start not.not-Idle not.not-Done not.not-Again not.not-Error;
       room = c.requires;
     }
