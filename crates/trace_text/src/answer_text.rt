@@ -3,7 +3,7 @@
 
 ghost use Rattle.std.specs.Prelude.{◌≡◌, ℕ, ◌+◌, ◌≤◌, ◌<◌, ◌++◌, length, take, codes};
 ghost use Rattle.std.specs.Fmt.{decimal};
-ghost use Rattle.trace_text.specs.Spelling.{kind_text, refusal_text, error_text, effect_text, whether_text, outcome_text, cancel_text, answer_text};
+ghost use Rattle.trace_text.specs.Spelling.{kind_text, refusal_text, effect_text, whether_text, outcome_text, cancel_text, answer_text};
 ghost use Rattle.sched_time.specs.Policies.{policy_text, truth_text};
 ghost use Rattle.trace_text.specs.Writing.{Puts};
 ghost use Rattle.executor_core.specs.declared.Answer.TheVariants as a;
@@ -53,9 +53,7 @@ pub fn put_effect(buffer: &mut [u8], at: usize, task: u32, effect: CancelEffect)
     ensures put { Puts (take at buffer.old) (take result buffer.new) (cancel_text (task, effect)) }
 {
     let at = put_number(buffer, at, task as u64);
-    let at = put_text(buffer, at, *b" ");
-    let at = put_effect_text(buffer, at, effect);
-    put_text(buffer, at, *b"\n")
+    put_effect_text(buffer, at, effect)
 }
 
 /// Puts a policy, and what it was set to.
@@ -239,9 +237,14 @@ pub fn put_error(buffer: &mut [u8], at: usize, error: EventError) -> usize
     ensures end { result ≤ at + ANSWER_ROOM }
     ensures put { Puts (take at buffer.old) (take result buffer.new) (answer_text (a.Error error)) }
 {
-    let at = put_text(buffer, at, *b" error ");
-    let at = put_error_text(buffer, at, error);
-    put_text(buffer, at, *b"\n")
+    match error {
+        EventError::Backward => put_text(buffer, at, *b" error backward\n"),
+        EventError::TooFar => put_text(buffer, at, *b" error too far\n"),
+        EventError::NoWorker => put_text(buffer, at, *b" error no worker\n"),
+        EventError::Busy => put_text(buffer, at, *b" error busy\n"),
+        EventError::NotRunning => put_text(buffer, at, *b" error not running\n"),
+        EventError::NoTask => put_text(buffer, at, *b" error no task\n"),
+    }
 }
 
 /// Puts the word of a kind of task, with what stands before and behind it.
@@ -272,34 +275,18 @@ fn put_refusal(buffer: &mut [u8], at: usize, refusal: Refusal) -> usize
     }
 }
 
-/// Puts why an event had no effect, in words.
-#[inline(always)]
-fn put_error_text(buffer: &mut [u8], at: usize, error: EventError) -> usize
-    requires { at + 20 ≤ length buffer.old }
-    ensures end { result ≤ at + 20 }
-    ensures put { Puts (take at buffer.old) (take result buffer.new) (error_text error) }
-{
-    match error {
-        EventError::Backward => put_text(buffer, at, *b"backward"),
-        EventError::TooFar => put_text(buffer, at, *b"too far"),
-        EventError::NoWorker => put_text(buffer, at, *b"no worker"),
-        EventError::Busy => put_text(buffer, at, *b"busy"),
-        EventError::NotRunning => put_text(buffer, at, *b"not running"),
-        EventError::NoTask => put_text(buffer, at, *b"no task"),
-    }
-}
-
-/// Puts what a cancel did, in a word.
+/// Puts what a cancel did, in a word, with the space before it and the newline.
 #[inline(always)]
 fn put_effect_text(buffer: &mut [u8], at: usize, effect: CancelEffect) -> usize
     requires { at + 10 ≤ length buffer.old }
     ensures end { result ≤ at + 10 }
-    ensures put { Puts (take at buffer.old) (take result buffer.new) (effect_text effect) }
+    ensures put { Puts (take at buffer.old) (take result buffer.new)
+        (codes " " ++ (effect_text effect ++ codes "\n")) }
 {
     match effect {
-        CancelEffect::Yes => put_text(buffer, at, *b"yes"),
-        CancelEffect::No => put_text(buffer, at, *b"no"),
-        CancelEffect::Absent => put_text(buffer, at, *b"none"),
+        CancelEffect::Yes => put_text(buffer, at, *b" yes\n"),
+        CancelEffect::No => put_text(buffer, at, *b" no\n"),
+        CancelEffect::Absent => put_text(buffer, at, *b" none\n"),
     }
 }
 

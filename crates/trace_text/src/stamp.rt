@@ -2,8 +2,10 @@
 ghost use Rattle.std.specs.Prelude.{◌≡◌, ◌+◌, ◌≤◌, length, take};
 ghost use Rattle.std.specs.Fmt.{decimal};
 ghost use Rattle.trace_text.specs.Writing.{Puts};
+ghost use Rattle.trace_text.specs.own.Spelling.{HaveDigits};
 
 use crate::put::{put_number, put_text};
+use itoa::write_digits;
 use std::marker::Model;
 
 /// How many bytes a stamp is put as: its digits, and others that are lost.
@@ -16,17 +18,23 @@ pub struct Stamp {
     moment: u64,
     digits: [u8; STAMP_BYTES],
     count: usize,
+    /// The least number of those that are known to have as many digits, and the one behind the greatest: none, where it is not
+    /// above.
+    least: u64,
+    behind: u64,
 }
 
 impl Model for Stamp {
     ghost use Rattle.std.specs.Prelude.{◌≡◌, ◌≤◌, ℕ, take};
     ghost use Rattle.std.specs.Fmt.{decimal};
+    ghost use Rattle.trace_text.specs.own.Spelling.{HaveDigits};
 
     ghost Value = { ℕ };
 
     ghost view = { λ s. s.moment };
 
-    ghost invariant = { λ s. (s.count ≤ 20) × (take s.count s.digits ≡ decimal s.moment) };
+    ghost invariant = { λ s. (s.count ≤ 20) × (take s.count s.digits ≡ decimal s.moment)
+        × HaveDigits s.count s.least s.behind };
 }
 
 impl Stamp {
@@ -40,6 +48,8 @@ impl Stamp {
             moment,
             digits,
             count,
+            least: 0,
+            behind: 0,
         }
     }
 
@@ -48,10 +58,26 @@ impl Stamp {
     fn turn_to(&mut self, moment: u64)
         ensures { self.new ≡ moment }
     {
-        if self.moment != moment {
-            self.count = put_number(&mut self.digits, 0, moment);
-            self.moment = moment;
+        if self.moment == moment {
+            return;
         }
+        if self.least <= moment && moment < self.behind {
+            write_digits(moment, &mut self.digits, self.count);
+            self.moment = moment;
+        } else {
+            self.turn_far(moment);
+        }
+    }
+
+    /// Changes to a moment that may have more digits, or fewer.
+    #[cold]
+    fn turn_far(&mut self, moment: u64)
+        ensures { self.new ≡ moment }
+    {
+        let count = put_number(&mut self.digits, 0, moment);
+        (self.least, self.behind) = numbers_with(count);
+        self.count = count;
+        self.moment = moment;
     }
 
     /// Changes to this moment, and puts its digits as [`Stamp::put`] does.
@@ -77,6 +103,17 @@ impl Stamp {
         put_text(buffer, at, self.digits);
         at + self.count
     }
+}
+
+/// The least number of 2 to 19 digits that has so many, and the one behind the greatest of them.
+fn numbers_with(count: usize) -> (u64, u64)
+    ensures { HaveDigits count result.0 result.1 }
+{
+    if count < 2 || count > 19 {
+        return (0, 0);
+    }
+    let least = 10u64.pow(count as u32 - 1);
+    (least, least * 10)
 }
 
 #[cfg(test)]
