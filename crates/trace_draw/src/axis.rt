@@ -1,4 +1,4 @@
-//! The ticks of a window.
+//! The axis of a window: its ticks.
 ghost use Rattle.std.specs.Prelude.{◌≡◌, IfOk};
 ghost use Rattle.trace_draw.specs.Ticks.{ticks_of};
 

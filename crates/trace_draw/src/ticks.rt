@@ -1,4 +1,4 @@
-//! The axis of time.
+//! The ticks of an axis of time.
 use sched_time::Unit;
 
 /// A moment of the axis: it is `count` of `unit`.
