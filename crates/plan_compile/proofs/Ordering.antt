@@ -13,7 +13,7 @@ use Rattle.plan_read.specs.declared.plans.Target.{Target}
 use Rattle.plan_read.specs.Plans.{BlockTree, PlanTree, is_submission, names_of, tasks_after, tasks_after_calls, last_offset, last_offset_from, end_of, end_of_block, made_by, made_from, IsWithinLimits, StandsBefore, IsAimed, AreCallsAfter, IsBlockAfter, AreBlocksAfter, IsOrdered}
 use Rattle.plan_read.proofs.Accepted.{end_from_one_more, made_from_one_more}
 use Rattle.plan_read.proofs.Naming.{tasks_after-one_more}
-use Rattle.plan_compile.specs.PlanCalls.{number_of, code_call, calls_at, block_tasks, block_iteration, block_iterations, calls_of_blocks, calls_of_plan}
+use Rattle.plan_compile.specs.PlanCalls.{target_number, code_call, calls_at, block_tasks, block_iteration, block_iterations, calls_of_blocks, calls_of_plan}
 use Rattle.plan_compile.specs.own.PlanCode.{IsBelow}
 use Rattle.plan_compile.proofs.Counting.{tasks_after_calls-from, length-names_of, length-calls_from, times-suc}
 use Rattle.plan_compile.proofs.Runs.{Runs, runs_orderly, runs_earlier, runs_later, runs_append}
@@ -72,7 +72,7 @@ firsts_next earlier firsts first b least a =
 -- ---- one call
 
 target_below : (earlier : PlanTree) (firsts : List ℕ) (start : ℕ) (before : List Call) (name : List ℕ) (target : Target) → AreFirsts earlier firsts start
-    → StandsBefore earlier before name target → number_of firsts start target < start + tasks_after_calls 0 before
+    → StandsBefore earlier before name target → target_number firsts start target < start + tasks_after_calls 0 before
 target_below earlier firsts start before name target a (inl here) =
     let none : slice_get firsts target.block ≡ None = slice_get_past firsts target.block (omega (arith, a.count, here.0)) in
     let within = slice_get_within (names_of before) target.sub name here.1 in

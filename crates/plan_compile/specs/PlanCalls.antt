@@ -13,8 +13,8 @@ use Rattle.plan_read.specs.Plans.{BlockTree, PlanTree, tasks_after, tasks_after_
 
 -- the number of a cancel's target: submissions are numbered 0, 1, .. in the order of their calls. `firsts` has the first number of
 -- each block before the cancel's own, and `start` is the first one of its own iteration
-abbrev pub number_of : List ℕ → ℕ → Target → ℕ
-number_of firsts start target = unwrap_or (slice_get firsts target.block) start + target.sub
+abbrev pub target_number : List ℕ → ℕ → Target → ℕ
+target_number firsts start target = unwrap_or (slice_get firsts target.block) start + target.sub
 
 -- the call that an operation asks for, where `task` submissions stand before it
 -- (a submission with no legal period or fixed delay is a call too, and has a number)
@@ -25,7 +25,7 @@ code_call firsts start task (ops.Rate name first (Some period)) = made.Submit ta
 code_call firsts start task (ops.Rate name first None) = made.Illegal task
 code_call firsts start task (ops.Fixed name first (Some delay)) = made.Submit task (t.Fixed delay) first
 code_call firsts start task (ops.Fixed name first None) = made.Illegal task
-code_call firsts start task (ops.Cancel target) = made.Cancel (number_of firsts start target)
+code_call firsts start task (ops.Cancel target) = made.Cancel (target_number firsts start target)
 code_call firsts start task (ops.Policy which value) = made.SetPolicy which value
 code_call firsts start task ops.Shutdown = made.Shutdown
 code_call firsts start task ops.ShutdownNow = made.ShutdownNow

@@ -11,7 +11,7 @@ use Rattle.plan_read.specs.declared.plans.Op.{Op}
 use Rattle.plan_read.specs.declared.plans.Op.TheVariants as ops
 use Rattle.plan_read.specs.declared.plans.Target.{Target}
 use Rattle.plan_read.specs.Plans.{PlanTree}
-use Rattle.plan_compile.specs.PlanCalls.{number_of, block_tasks}
+use Rattle.plan_compile.specs.PlanCalls.{target_number, block_tasks}
 
 -- a cancel's target is in the cancel's own block, and in none of those before it, whose first numbers `firsts` has
 abbrev pub is_own : List ℕ → Target → Bool
@@ -21,7 +21,7 @@ is_own firsts target = is_none (slice_get firsts target.block)
 -- iteration come before it, and every other target by its number in the plan
 abbrev pub cancel_instr : List ℕ → ℕ → Bool → ℕ → Target → Instr
 cancel_instr firsts first repeated offset target =
-    if repeated && is_own firsts target then instr.CancelHere offset target.sub else instr.CancelFixed offset (number_of firsts first target)
+    if repeated && is_own firsts target then instr.CancelHere offset target.sub else instr.CancelFixed offset (target_number firsts first target)
 
 -- the instruction of an operation
 abbrev pub instr_of : List ℕ → ℕ → Bool → ℕ → Op → Instr

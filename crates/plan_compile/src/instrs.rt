@@ -3,11 +3,11 @@
 ghost use Rattle.std.specs.Prelude.{◌≡◌, ◌≤◌};
 ghost use Rattle.sched_time.specs.Times.{longest};
 ghost use Rattle.queue_code.specs.Calls.{most_calls_of_code};
-ghost use Rattle.plan_compile.specs.PlanCalls.{number_of};
+ghost use Rattle.plan_compile.specs.PlanCalls.{target_number};
 ghost use Rattle.plan_compile.specs.PlanCode.{cancel_instr, instr_of};
 ghost use Rattle.plan_compile.specs.own.PlanCode.{IsBelow};
 
-use crate::numbers::number_of;
+use crate::numbers::target_number;
 use plan_read::{Op, Target};
 use queue_code::Instr;
 use sched_time::Timing;
@@ -47,13 +47,13 @@ pub fn instr_of(firsts: &[u32], first: u32, repeated: bool, offset: u64, op: &Op
 /// The instruction of a cancel: in a repeated block, a submission of the same iteration is named by its place in it,
 /// and every other one by its number in the plan.
 fn cancel_instr(firsts: &[u32], first: u32, repeated: bool, offset: u64, target: Target) -> Instr
-    requires { number_of firsts.now first target ≤ most_calls_of_code }
+    requires { target_number firsts.now first target ≤ most_calls_of_code }
     ensures { result ≡ cancel_instr firsts.now first repeated offset target }
 {
     let is_own = firsts.get(target.block).is_none();
     if repeated && is_own {
         Instr::CancelHere(offset, target.sub as u32)
     } else {
-        Instr::CancelFixed(offset, number_of(firsts, first, target))
+        Instr::CancelFixed(offset, target_number(firsts, first, target))
     }
 }

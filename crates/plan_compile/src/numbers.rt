@@ -3,15 +3,15 @@
 ghost use Rattle.std.specs.Prelude.{◌≡◌, ◌≤◌};
 ghost use Rattle.queue_code.specs.Calls.{most_calls_of_code};
 ghost use Rattle.plan_read.specs.Plans.{tasks_after};
-ghost use Rattle.plan_compile.specs.PlanCalls.{number_of};
+ghost use Rattle.plan_compile.specs.PlanCalls.{target_number};
 
 use plan_read::{Op, Target};
 
 /// The number of a cancel's target, where `firsts` has the first number of each block before the
 /// cancel's own, and its own iteration begins with the number `start`.
-pub fn number_of(firsts: &[u32], start: u32, target: Target) -> u32
-    requires { number_of firsts.now start target ≤ most_calls_of_code }
-    ensures { result ≡ number_of firsts.now start target }
+pub fn target_number(firsts: &[u32], start: u32, target: Target) -> u32
+    requires { target_number firsts.now start target ≤ most_calls_of_code }
+    ensures { result ≡ target_number firsts.now start target }
 {
     let first = firsts.get(target.block).copied().unwrap_or(start);
     first + target.sub as u32
