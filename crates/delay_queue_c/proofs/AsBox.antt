@@ -10,7 +10,7 @@ use Rattle.std_alloc.proofs.BoxSteps.Form.{Bx}
 use Rattle.delay_queue.proofs.queue.DelayQueue.TheLaws as queue_laws
 use Rattle.c_slot.specs.contracts.kept.Kept as kept
 use Rattle.delay_queue_c.specs.Held.{QueueRow}
-use Rattle.delay_queue_c.specs.contracts.held.Held as held
+use Rattle.delay_queue_c.specs.contracts.held.QueuePointer as held
 
 abbrev pub E : Bx
 E = record { row = QueueRow; laws = queue_laws.the_row_laws heap.the_row ghosts heap_laws.the_row_laws; al = record { row = heap.the_row; laws = heap_laws.the_row_laws; g = ghosts; d = dict; drops = impl [] tnil dnil } }

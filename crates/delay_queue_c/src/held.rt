@@ -12,34 +12,34 @@ use std::marker::Model;
 /// The pointer to a queue, or null.
 #[repr(C)]
 #[derive(Drop)]
-pub struct Held {
+pub struct QueuePointer {
     ptr: *mut u8,
     alloc: Global,
     pub ghost full: { Bool },
     pub ghost value: { Queue } by { queue_coded },
 }
 
-impl Model for Held {
+impl Model for QueuePointer {
     ghost also_owns = { λ h. holds_queue h.alloc h.ptr h.full h.value };
 }
 
-impl Held {
+impl QueuePointer {
     /// The null pointer.
-    pub(crate) fn nothing(alloc: Global) -> Held
+    pub(crate) fn nothing(alloc: Global) -> QueuePointer
         ensures { (result.full ≡ false) × (result.value ≡ nothing) }
     {
-        Held {
+        QueuePointer {
             ptr: std::ptr::null_mut(),
             alloc,
         }
     }
 
     /// The pointer to a queue.
-    pub(crate) fn of(kept: Kept<DelayQueue<Global>, Global>) -> Held
+    pub(crate) fn of(kept: Kept<DelayQueue<Global>, Global>) -> QueuePointer
         ensures { (result.full ≡ true) × (result.value ≡ kept.value) }
     {
         let Kept { ptr, alloc } = kept;
-        Held {
+        QueuePointer {
             ptr: ptr as *mut u8,
             alloc,
         }
@@ -50,7 +50,7 @@ impl Held {
         requires { self.full ≡ true }
         ensures { result.value ≡ self.value }
     {
-        let Held { ptr, alloc } = self;
+        let QueuePointer { ptr, alloc } = self;
         Kept {
             ptr: ptr as *mut DelayQueue<Global>,
             alloc,
@@ -58,4 +58,4 @@ impl Held {
     }
 }
 
-unsafe impl Send for Held {}
+unsafe impl Send for QueuePointer {}

@@ -2,7 +2,7 @@
 ghost use Rattle.std.specs.Prelude.{◌≡◌, true, false, is_some, length, IfSome, IfNone};
 ghost use Rattle.delay_queue_c.specs.own.Kept.{nothing};
 
-use crate::held::Held;
+use crate::held::QueuePointer;
 use c_slot::Kept;
 use delay_queue::DelayQueue;
 use std::alloc::Global;
@@ -14,7 +14,7 @@ use std::alloc::Global;
 #[derive(Drop)]
 pub struct Slot {
     /// The queue.
-    pub held: Held,
+    pub held: QueuePointer,
     /// For how many tasks the queue is, and 0 where there is none.
     pub tasks: u32,
     /// Whether there is a queue.
@@ -30,7 +30,7 @@ impl Slot {
         ensures value { result.held.value ≡ nothing }
     {
         Slot {
-            held: Held::nothing(alloc),
+            held: QueuePointer::nothing(alloc),
             tasks: 0,
             full: false,
         }
@@ -43,7 +43,7 @@ impl Slot {
         ensures value { result.held.value ≡ queue.value }
     {
         Slot {
-            held: Held::of(Kept::of(queue)),
+            held: QueuePointer::of(Kept::of(queue)),
             tasks,
             full: true,
         }

@@ -11,10 +11,10 @@ use Rattle.std.proofs.alloc.Calls.{handle_tells}
 use Rattle.std_alloc.proofs.ResultValues.{and_tt}
 use Rattle.delay_queue_c.proofs.AsBox.{E}
 use Rattle.delay_queue_c.specs.own.Kept.{nothing as no_queue}
-use Rattle.delay_queue_c.specs.contracts.held.Held as held
-use Rattle.delay_queue_c.specs.contracts.held.Held.nothing as f
-use Rattle.delay_queue_c.proofs.held.Held.nothing.Statement.{statement}
-use Rattle.delay_queue_c.proofs.held.Held.nothing.Code as code
+use Rattle.delay_queue_c.specs.contracts.held.QueuePointer as held
+use Rattle.delay_queue_c.specs.contracts.held.QueuePointer.nothing as f
+use Rattle.delay_queue_c.proofs.held.QueuePointer.nothing.Statement.{statement}
+use Rattle.delay_queue_c.proofs.held.QueuePointer.nothing.Code as code
 
 abbrev stayed : Stays f.ended.signature.params f.ended.kept
 stayed = (stay_dropped (plain (λ _. heap.the_row)) yes, tt)

@@ -7,10 +7,10 @@ use Rattle.std_alloc.proofs.BoxSteps.Form.{R, τ, word, box_typed}
 use Rattle.c_slot.proofs.Opened.{D, Row, words, opened, closed}
 use Rattle.delay_queue_c.proofs.AsBox.{E, KeptRow, from_held}
 use Rattle.delay_queue_c.specs.Held.{holds_queue}
-use Rattle.delay_queue_c.specs.contracts.held.Held as held
-use Rattle.delay_queue_c.specs.contracts.held.Held.into_kept as f
-use Rattle.delay_queue_c.proofs.held.Held.into_kept.Statement.{statement}
-use Rattle.delay_queue_c.proofs.held.Held.into_kept.Code as code
+use Rattle.delay_queue_c.specs.contracts.held.QueuePointer as held
+use Rattle.delay_queue_c.specs.contracts.held.QueuePointer.into_kept as f
+use Rattle.delay_queue_c.proofs.held.QueuePointer.into_kept.Statement.{statement}
+use Rattle.delay_queue_c.proofs.held.QueuePointer.into_kept.Code as code
 
 abbrev stayed : Stays f.ended.signature.params f.ended.kept
 stayed = (stay_dropped from_held yes, tt)

@@ -16,7 +16,7 @@ use Rattle.std_alloc.proofs.SendSync.{quiet, lies}
 use Rattle.delay_queue.specs.Queues.{Queue}
 use Rattle.delay_queue.proofs.queue.DelayQueue.TheSendSync.{the_send as queue_sends}
 use Rattle.delay_queue_c.specs.Held.{QueueRow, holds_queue}
-use Rattle.delay_queue_c.specs.contracts.held.Held.{the_row, the_type}
+use Rattle.delay_queue_c.specs.contracts.held.QueuePointer.{the_row, the_type}
 
 crosses : (alloc : Global) (at : Ptr) (full : Bool) (value : Queue) → Keyless (holds_queue alloc at full value)
 crosses alloc at true value = (lies QueueRow (queue_sends heap_type.the_row ghosts heap.send heap.frees) at value, heap.frees.frees alloc (raw (lone QueueRow.mir)) at)

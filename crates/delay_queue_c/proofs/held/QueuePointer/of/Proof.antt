@@ -7,10 +7,10 @@ use Rattle.std.specs.Box.Ownership.{box_owns}
 use Rattle.std_alloc.proofs.BoxSteps.Form.{R, τ, word, box_typed}
 use Rattle.c_slot.proofs.Opened.{D, Row, words, opened, closed}
 use Rattle.delay_queue_c.proofs.AsBox.{E, from_kept}
-use Rattle.delay_queue_c.specs.contracts.held.Held as held
-use Rattle.delay_queue_c.specs.contracts.held.Held.of as f
-use Rattle.delay_queue_c.proofs.held.Held.of.Statement.{statement}
-use Rattle.delay_queue_c.proofs.held.Held.of.Code as code
+use Rattle.delay_queue_c.specs.contracts.held.QueuePointer as held
+use Rattle.delay_queue_c.specs.contracts.held.QueuePointer.of as f
+use Rattle.delay_queue_c.proofs.held.QueuePointer.of.Statement.{statement}
+use Rattle.delay_queue_c.proofs.held.QueuePointer.of.Code as code
 
 abbrev stayed : Stays f.ended.signature.params f.ended.kept
 stayed = (stay_dropped from_kept yes, tt)
