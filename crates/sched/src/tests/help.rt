@@ -65,7 +65,7 @@ fn version_names_the_toolchain(rt: HostRuntime) {
         &rt,
         &[b"sched", b"--version"],
         0,
-        &["sched 0.1.0 (rattle-kit-13f logic "],
+        &["sched 0.1.0 (rattle-kit-13b logic "],
     );
 }
 
