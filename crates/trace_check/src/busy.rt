@@ -68,7 +68,7 @@ impl Busy {
         None
     }
 
-    /// A happening that gets this answer at this moment. The end of a task, which is no answer, has none.
+    /// A happening that gets what a line says, at its moment. The end of a task, which is no answer, has none.
     pub fn representative(&self, moment: u64, said: &Said) -> Option<Happening>
         ensures { (lines : List Told) → TellBusy self.now.flags lines → result
             ≡ representative_of_message self.now.workers lines moment (message_of said.now) }

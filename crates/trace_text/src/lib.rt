@@ -8,8 +8,9 @@
 //! - [`read_line`] reads one line of a trace, with its newline. [`split_line`] reads at the front of a trace, and also gives what
 //!   follows, so that a trace is read line by line with no search for newlines.
 //! - [`write_line`] appends to a `Vec<u8>`: it makes room and calls [`put_line`], which writes at a place of any slice. In a
-//!   buffer that keeps its bytes [`put_line`] alone is the faster of the two, as none is cleared before it is written.
-//!   Its [`Stamp`] keeps the digits of the last line's moment, so that lines of one moment, one behind the other, copy them.
+//!   buffer that keeps its bytes [`put_line`] alone is the faster of the two, as none is cleared before it is written, and in a
+//!   loop over many lines [`put_line_here`], which is more code. Their [`Stamp`] keeps the digits of the last line's moment, so
+//!   that lines of one moment, one behind the other, copy them.
 //! - [`strip_word`], [`number_before`], [`code_before`], [`split_which`] and [`split_truth`] read one word or number at the front
 //!   of some bytes, and what follows it: lines of other forms are read with them.
 //!

@@ -14,7 +14,8 @@ use crate::put::{put_number, put_text};
 use executor_core::{Outcome, Said};
 
 /// Puts what a line says at a place of a buffer, and returns where it ends: at most [`ANSWER_ROOM`] bytes on, which have to be
-/// there. What most lines say is put here, all else by a call: the compiler keeps no more than this in one place.
+/// there. What few lines say, and what takes many steps, is put by a call: so this stays small enough for the compiler to put it
+/// where it is called.
 #[inline(always)]
 pub fn put_said(buffer: &mut [u8], at: usize, said: &Said) -> usize
     requires { at + ANSWER_ROOM ≤ length buffer.old }

@@ -105,7 +105,7 @@ impl Stamp {
     }
 }
 
-/// The least number of 2 to 19 digits that has so many, and the one behind the greatest of them.
+/// The least number that has so many digits, 2 to 19, and the one behind the greatest; of another count none, as 0 and 0.
 fn numbers_with(count: usize) -> (u64, u64)
     ensures { HaveDigits count result.0 result.1 }
 {

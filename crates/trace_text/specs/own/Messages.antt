@@ -4,7 +4,8 @@ use Rattle.std.specs.Prelude.{Bool, true, false}
 use Rattle.executor_core.specs.declared.said.Said.{Said}
 use Rattle.executor_core.specs.declared.said.Said.TheVariants as s
 
--- what answers a task that is submitted, started, finished or cancelled, a clock, and an event without effect
+-- a task is accepted or cancelled, a clock moves, a worker starts a run or finds none, a run is done or is followed by the
+-- next, or an event has no effect
 abbrev pub is_common : Said → Bool
 is_common (s.Submit _ _ _) = true
 is_common (s.Cancel _ _) = true
