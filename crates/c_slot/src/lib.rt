@@ -8,7 +8,8 @@
 //!
 //! ```rust
 //! let kept = Kept::of(Box::new(alloc, 7u32)?);
-//! let seven = kept.into_box(); // a box with 7
+//! let seven = kept.into_box();
+//! assert_eq!(rt; *seven, 7);
 //! ```
 //!
 //! A slot is full or empty, and owns what `slot_owns` of `specs/Slots.antt` says. C takes no type parameters, so each

@@ -14,12 +14,11 @@
 //! queue.insert(Entry { due: 5, task: 0 });
 //! queue.insert(Entry { due: 3, task: 2 });
 //!
-//! queue.peek();    // Some(Entry { due: 3, task: 2 })
-//! queue.poll(2);   // None: nothing is due yet
-//! queue.poll(3);   // Some(Entry { due: 3, task: 2 })
-//! queue.due_of(0); // Some(5)
-//! queue.remove(0); // true
-//! queue.is_empty(); // true
+//! assert_eq!(rt; queue.peek(), Some(Entry { due: 3, task: 2 }));
+//! assert_eq!(rt; queue.poll(3), Some(Entry { due: 3, task: 2 }));
+//! assert_eq!(rt; queue.due_of(0), Some(5));
+//! assert!(rt; queue.remove(0));
+//! assert!(rt; queue.is_empty());
 //! ```
 //!
 //! # Behaviour

@@ -76,6 +76,15 @@ impl<A: Allocator> DelayQueue<A> {
     /// Takes out the least entry, if it is due at the moment `now`, in nanoseconds.
     ///
     /// `None` says that no entry is due at `now`; the queue is then unchanged.
+    ///
+    /// ```rust
+    /// let mut queue = DelayQueue::new(alloc, 2)?;
+    /// queue.insert(Entry { due: 5, task: 1 });
+    /// queue.insert(Entry { due: 5, task: 0 });
+    /// assert_eq!(rt; queue.poll(4), None); // nothing is due yet
+    /// assert_eq!(rt; queue.poll(5), Some(Entry { due: 5, task: 0 }));
+    /// assert_eq!(rt; queue.poll(9), Some(Entry { due: 5, task: 1 }));
+    /// ```
     pub fn poll(&mut self, now: u64) -> Option<Entry>
         ensures least { IfSome result (λ e. IsLeast self.old.entries e.due e.task) }
         ensures due { IfSome result (λ e. e.due ≤ now) }

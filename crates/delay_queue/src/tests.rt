@@ -9,6 +9,24 @@ use std::process::Abort;
 use std::test::Fail;
 
 #[test]
+fn the_page_is_run(rt: HostRuntime) -> Result<(), Fail> {
+    let alloc = rt.alloc();
+    // example: delay_queue
+    // Room for the tasks 0, 1 and 2.
+    let mut queue = DelayQueue::new(alloc, 3)?;
+    queue.insert(Entry { due: 5, task: 0 });
+    queue.insert(Entry { due: 3, task: 2 });
+
+    assert_eq!(rt; queue.peek(), Some(Entry { due: 3, task: 2 }));
+    assert_eq!(rt; queue.poll(3), Some(Entry { due: 3, task: 2 }));
+    assert_eq!(rt; queue.due_of(0), Some(5));
+    assert!(rt; queue.remove(0));
+    assert!(rt; queue.is_empty());
+    // end of example
+    Ok(())
+}
+
+#[test]
 fn the_least_comes_out_once_it_is_due(rt: HostRuntime) -> Result<(), Fail> {
     let mut queue = DelayQueue::new(rt.alloc(), 3)?;
     queue.insert(Entry { due: 5, task: 0 });
@@ -23,6 +41,20 @@ fn the_least_comes_out_once_it_is_due(rt: HostRuntime) -> Result<(), Fail> {
     assert_eq!(rt; polled, [None, least, Some(Entry { due: 5, task: 0 })]);
     let removed = [queue.remove(1), queue.remove(1)];
     assert_eq!(rt; (removed, queue.len()), ([true, false], 0));
+    Ok(())
+}
+
+#[test]
+fn entries_of_one_moment_are_polled(rt: HostRuntime) -> Result<(), Fail> {
+    let alloc = rt.alloc();
+    // example: delay_queue::DelayQueue::poll
+    let mut queue = DelayQueue::new(alloc, 2)?;
+    queue.insert(Entry { due: 5, task: 1 });
+    queue.insert(Entry { due: 5, task: 0 });
+    assert_eq!(rt; queue.poll(4), None); // nothing is due yet
+    assert_eq!(rt; queue.poll(5), Some(Entry { due: 5, task: 0 }));
+    assert_eq!(rt; queue.poll(9), Some(Entry { due: 5, task: 1 }));
+    // end of example
     Ok(())
 }
 

@@ -11,39 +11,27 @@
 //! let instrs = vec![in alloc; Instr::Submit(0, Timing::Once, 5), Instr::Halt]?;
 //! let mut core = Core::new(alloc, Code::check(alloc, instrs)?, 1, 100)?;
 //! let mut lines = Vec::new(alloc);
-//! for event in [Event::Clock(5), Event::Start(0), Event::Finish(0, Ending::Value(7))] {
-//!     core.event(event, &mut lines)?;
-//! }
-//! for line in &lines {
-//!     println!(rt; "{} {:?}", line.moment(), line.message())?;
-//! }
-//! // 0 Answer(Submit { task: 0, kind: Schedule, due: 5 })
-//! // 5 Answer(Clock)
-//! // 5 Answer(Start { worker: 0, task: 0, run: 0, due: 5 })
-//! // 5 Answer(Finish { worker: 0, task: 0, run: 0, outcome: Done(7) })
+//! core.event(Event::Clock(5), &mut lines)?;
+//! core.event(Event::Start(0), &mut lines)?;
+//! core.event(Event::Finish(0, Ending::Value(7)), &mut lines)?;
+//!
+//! assert_eq!(rt; lines.len(), 4); // of the submission, the clock, the start and the finish
+//! let finish = Answer::Finish {
+//!     worker: 0,
+//!     task: 0,
+//!     run: 0,
+//!     outcome: Outcome::Done(7),
+//! };
+//! assert_eq!(rt; lines.pop(), Some(Line::new(5, Message::Answer(finish))));
 //! ```
 //!
 //! # Single happenings
 //!
 //! A layer that decides itself what happens next, as a pool of workers or a checker of traces, takes an event apart.
 //! [`count`](Core::count) takes it, unless the core is [`full`](Core::full). As long as the event
-//! [reaches a call](Core::reaches_call) of the plan that call comes next, and then the event itself; cancels that a layer notes
-//! may stand between. [`happen`](Core::happen) makes any happening that [may come](Core::may_come), and takes no memory: the list
-//! has [`room`](Core::room) lines free.
-//!
-//! ```rust
-//! let event = Event::Clock(9);
-//! assert!(rt; !core.full());
-//! lines.reserve(core.room())?;
-//! core.count();
-//! while core.reaches_call(event) {
-//!     core.happen(Happening::Call, &mut lines);
-//! }
-//! core.happen(event.happening(), &mut lines);
-//! // Whether the due moment of a task is reached, and what a start would move of the words.
-//! assert!(rt; core.ripe());
-//! assert_eq!(rt; core.need(Happening::Start(0)), Need::Start(0));
-//! ```
+//! [reaches a call](Core::reaches_call) of the plan that call comes next, and then the event itself, as the lines there show;
+//! cancels that a layer notes may stand between. [`happen`](Core::happen) makes any happening that [may come](Core::may_come),
+//! and takes no memory: the list has [`room`](Core::room) lines free.
 //!
 //! [`need`](Core::need) names what the step that would follow moves of the [`words`](Core::words), so that a layer can move words
 //! of its own first; [`sweeps`](Core::sweeps) tells whom a sweep would end. Each kind of happening has a step of its own as well
@@ -53,12 +41,6 @@
 //! A layer that needs both, what a happening moves and its step, hands what [`foresee`](Core::foresee) tells to
 //! [`happen_foreseen`](Core::happen_foreseen): the outcome of a finish is then worked out once. Of the others it tells the need
 //! alone, which is a look at the head of the queue, or at one task.
-//!
-//! ```rust
-//! let foreseen = core.foresee(Happening::Start(0));
-//! assert_eq!(rt; foreseen.need, Need::Start(0));
-//! core.happen_foreseen(foreseen, &mut lines);
-//! ```
 //!
 //! # Behaviour
 //!

@@ -131,6 +131,21 @@ impl<A: Allocator> Core<A> {
     /// event has it for those of each later one, once it is cleared.
     ///
     /// An event that is answered by [`Answer::Error`] changes nothing but the number of events taken.
+    ///
+    /// ```rust
+    /// let instrs = vec![in alloc; Instr::Ask(3), Instr::Halt]?;
+    /// let mut core = Core::new(alloc, Code::check(alloc, instrs)?, 1, 2)?; // two events at most
+    /// let mut lines = Vec::new(alloc);
+    /// core.event(Event::Clock(5), &mut lines)?;
+    /// assert_eq!(rt; lines.len(), 2); // of the question at 3, and of the clock
+    /// core.event(Event::Start(0), &mut lines)?;
+    /// let idle = Line::new(5, Message::Answer(Answer::Idle { worker: 0 }));
+    /// assert_eq!(rt; lines.pop(), Some(idle));
+    /// assert_eq!(rt;
+    ///     core.event(Event::Clock(9), &mut lines),
+    ///     Err(CoreError::Full)
+    /// );
+    /// ```
     #[inline(always)]
     pub fn event<B: Allocator>(
         &mut self,

@@ -3,10 +3,13 @@
 //! # Usage
 //!
 //! ```rust
-//! near(alloc, "clok", &["clock", "start", "cancel"])?;    // clock
-//! near(alloc, "CLOCK", &["clock", "start"])?;             // clock
-//! near(alloc, "stop", &["clock", "start"])?;              // none
-//! format!(in alloc; "{}", FileName("a\nb.toml"))?;        // a\nb.toml, in one line
+//! let words = ["clock", "start", "cancel"];
+//! let clock = ["clock"].as_slice();
+//! assert_eq!(rt; near(alloc, "clok", &words)?.as_slice(), clock);
+//! assert_eq!(rt; near(alloc, "CLOCK", &words)?.as_slice(), clock);
+//! assert!(rt; near(alloc, "stop", &words)?.is_empty());
+//! let name = format!(in alloc; "{}", FileName("a\nb.toml"))?;
+//! assert_eq!(rt; name.as_str(), "a\\nb.toml"); // in one line
 //! ```
 //!
 //! # Behaviour
@@ -35,7 +38,7 @@
 //! - Where a word is the same but for the case of ASCII letters, no others are told (`IsSameBut`).
 //! - At most three are told.
 //!
-//! That words are told, and which of those that are near, and the escapes are only tested, in `src/tests.rt`.
+//! That words are told, and which of those that are near, and the escapes are only tested, in `src/tests.rt` and `src/tests`.
 //!
 //! # Memory and cost
 //!

@@ -1,4 +1,5 @@
 //! Tests of words and of escapes.
+mod usage;
 
 use crate::{FileName, is_unseen, near};
 use refusing_allocator::Refusing;

@@ -4,12 +4,12 @@
 //!
 //! ```rust
 //! let text = b"version = 2\n\n[[block]]\n\n[[block.call]]\nop = \"ask\"\n";
-//! line_of(text, Place { block: 0, call: 0, key: Some("version") }); // Some(1)
-//! line_of(text, Place { block: 1, call: 0, key: None });            // Some(3), where the first block begins
-//! line_of(text, Place { block: 1, call: 1, key: Some("op") });      // Some(6)
-//! line_of(text, Place { block: 1, call: 1, key: Some("at") });      // None
-//! line_after(b"a\nb");                                              // 2
-//! column_after(b"a\nb");                                            // 2, that of what follows the `b`
+//! let line = |block, call, key| line_of(text, Place { block, call, key });
+//! assert_eq!(rt; line(0, 0, Some("version")), Some(1));
+//! assert_eq!(rt; line(1, 0, None), Some(3)); // where the first block begins
+//! assert_eq!(rt; line(1, 1, Some("op")), Some(6));
+//! assert_eq!(rt; line(1, 1, Some("at")), None);
+//! assert_eq!(rt; (line_after(b"a\nb"), column_after(b"a\nb")), (2, 2)); // of what follows the `b`
 //! ```
 //!
 //! # Behaviour

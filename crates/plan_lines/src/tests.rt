@@ -36,15 +36,16 @@ fn look_up(rt: &impl Abort, text: &str, table: &str) -> Result<(), Fail> {
 }
 
 #[test]
-fn the_lines_of_the_page(rt: HostRuntime) -> Result<(), Fail> {
-    let text = "version = 2\n\n[[block]]\n\n[[block.call]]\nop = \"ask\"\n";
-    look_up(
-        &rt,
-        text,
-        "1 | 0 0 version\n3 | 1 0\n6 | 1 1 op\n- | 1 1 at",
-    )?;
-    assert_eq!(rt; (line_after(b"a\nb"), column_after(b"a\nb")), (2, 2));
-    Ok(())
+fn the_page_is_run(rt: HostRuntime) {
+    // example: plan_lines
+    let text = b"version = 2\n\n[[block]]\n\n[[block.call]]\nop = \"ask\"\n";
+    let line = |block, call, key| line_of(text, Place { block, call, key });
+    assert_eq!(rt; line(0, 0, Some("version")), Some(1));
+    assert_eq!(rt; line(1, 0, None), Some(3)); // where the first block begins
+    assert_eq!(rt; line(1, 1, Some("op")), Some(6));
+    assert_eq!(rt; line(1, 1, Some("at")), None);
+    assert_eq!(rt; (line_after(b"a\nb"), column_after(b"a\nb")), (2, 2)); // of what follows the `b`
+    // end of example
 }
 
 #[test]

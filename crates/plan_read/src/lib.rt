@@ -20,11 +20,13 @@
 //! ```
 //!
 //! ```rust
-//! match read_plan(alloc, text) {
-//!     Ok(plan) => plan.blocks(),         // one block, made seven times
-//!     Err(fault) => return Err(fault),   // prints as `Missing block 1 call 0`
-//! }
-//! migrate(alloc, older)?;                // the text of version 2 for a text of version 1
+//! let text = "version = 2\n[[block]]\ntimes = 7\nevery = 1\nevery_unit = \"d\"\n";
+//! let plan = read_plan(alloc, text.as_bytes())?;
+//! let block = plan.blocks().first().ok_or("no block")?;
+//! assert_eq!(rt; (block.times(), block.every()), (7, 86_400_000_000_000));
+//!
+//! let newer = migrate(alloc, b"version = 1\n[[block]]\nat = 5\n")?;
+//! assert_eq!(rt; read_plan(alloc, newer.as_bytes())?.blocks().len(), 1);
 //! ```
 //!
 //! # Behaviour
@@ -107,7 +109,8 @@
 //! A migration takes the tree apart, changes it in place and prints it; it takes memory of the heap for the keys and the
 //! values that it adds, and for the text.
 //!
-//! The tests of this crate stand in the crate above it, in `plan_compile/src/plan_tests.rt`.
+//! The tests of this crate stand in the crate above it, in `plan_compile/src/plan_tests.rt`, and
+//! examples in `plan_compile/src/usage_tests.rt`.
 #![tactic(auto)]
 
 mod calls;

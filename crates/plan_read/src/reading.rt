@@ -30,6 +30,13 @@ use toml::{Table, Value};
 /// The page of this crate says what a plan text is, and in which order faults are looked for. A fault of
 /// the kind [`PlanFaultKind::Memory`] may come in place of any other answer, and says nothing of the text;
 /// it has block 0 and call 0.
+///
+/// ```rust
+/// let fault = read_plan(alloc, b"version = 2\n[[block]]\ntimes = 7\n").err();
+/// let fault = fault.ok_or("a plan")?;
+/// let told = fault.to_string(alloc)?; // `every` is missing
+/// assert_eq!(rt; told.as_str(), "Missing block 1 call 0");
+/// ```
 pub fn read_plan<A: HeapAllocator>(alloc: A, text: &[u8]) -> Result<Plan<A>, PlanFault>
     ensures plan { IfOk result (λ p. TextWrites text.now p) }
     ensures only { (plan : PlanTree) → TextWrites text.now plan

@@ -4,6 +4,7 @@ ghost use Rattle.std.specs.Prelude.{◌≡◌, IfOk};
 mod agendas;
 mod faults;
 mod listings;
+mod usage;
 mod walks;
 
 use crate::{Code, CodeFault, Instr};

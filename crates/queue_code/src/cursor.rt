@@ -71,6 +71,22 @@ impl Cursor {
     ///
     /// It executes 3 instructions at most, and one at least unless the cursor is past the end, where the first
     /// `None` leaves it.
+    ///
+    /// ```rust
+    /// let instrs = vec![in alloc;
+    ///     Instr::Loop(2, 10),
+    ///     Instr::Illegal(100),
+    ///     Instr::EndLoop,
+    ///     Instr::Halt,
+    /// ]?;
+    /// let code = Code::check(alloc, instrs)?;
+    /// let mut cursor = Cursor::new(&code);
+    /// let first = CodeCall::Illegal { task: 0 };
+    /// assert_eq!(rt; cursor.fetch(&code), Some((100, first)));
+    /// let second = CodeCall::Illegal { task: 1 };
+    /// assert_eq!(rt; cursor.fetch(&code), Some((110, second)));
+    /// assert_eq!(rt; cursor.fetch(&code), None);
+    /// ```
     pub fn fetch<A: Allocator>(&mut self, code: &Code<A>) -> Option<(u64, CodeCall)>
         requires { IsCursorOf code.now self.old }
         ensures cursor { IsCursorOf code.now self.new }

@@ -14,11 +14,10 @@
 //!     Instr::EndLoop,
 //!     Instr::Halt,
 //! ]?;
-//! let code = Code::check(alloc, instrs)?; // 6 calls, 3 tasks
-//! let mut cursor = Cursor::new(&code);
-//! cursor.fetch(&code); // Some((100, CodeCall::Submit { task: 0, timing: Timing::Once, delay: 50 }))
-//! cursor.next_moment(&code); // Some(104): the cancel of task 0; then 110 and 114, 120 and 124
-//! listing(alloc, &code)?; // "0 loop 3 every 10\n1 submit 100 schedule 50\n2 cancel 104 here 0\n3 endloop\n4 halt\n"
+//! let code = Code::check(alloc, instrs)?;
+//! assert_eq!(rt; (code.calls(), code.tasks()), (6, 3));
+//! let text = listing(alloc, &code)?;
+//! assert_eq!(rt; text.lines().nth(1), Some("1 submit 100 schedule 50"));
 //! ```
 //!
 //! # Behaviour

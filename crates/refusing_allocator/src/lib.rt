@@ -9,12 +9,12 @@
 //! let heap = Refusing::new(alloc);
 //! let mut numbers = Vec::new(&heap);
 //! heap.refuse(2);
-//! numbers.push(1)?;    // the first growth is granted
-//! numbers.reserve(99); // Err: the second is refused
+//! numbers.push(1)?; // the first growth is granted
+//! assert!(rt; numbers.reserve(99).is_err()); // the second is refused
+//! assert!(rt; heap.has_refused());
 //! numbers.reserve(99)?;
-//! heap.has_refused();  // true
 //! drop(numbers);
-//! heap.used();         // 0
+//! assert_eq!(rt; heap.used(), 0);
 //! ```
 //!
 //! # Behaviour
@@ -38,9 +38,12 @@
 //!
 //! # Tests
 //!
-//! They stand in the crates that use it, each of which refuses growths that are told, and gives back all that it took.
+//! That of the lines above stands in `src/tests.rt`, all others in the crates that use it, each of which refuses growths that are
+//! told, and gives back all that it took.
 #![tactic(auto)]
 
 mod refusing;
+#[cfg(test)]
+mod tests;
 
 pub use refusing::Refusing;

@@ -9,14 +9,16 @@
 //! ```rust
 //! let cell = ResultCell::new(alloc);
 //! let mut note = cell.note();
-//! cell.read(&mut note); // None: nobody has put a verdict
+//! assert_eq!(rt; cell.read(&mut note), None); // nobody has put a verdict
 //!
-//! let done = Verdict { task: 0, ending: Ending::Value(7) };
-//! cell.put(&mut note, Box::new(alloc, done)?); // Ok(())
+//! let ending = Ending::Value(7);
+//! let done = Verdict { task: 0, ending };
+//! assert!(rt; cell.put(&mut note, Box::new(alloc, done)?).is_ok());
 //!
-//! let failed = Verdict { task: 0, ending: Ending::Fault(3) };
-//! cell.put(&mut note, Box::new(alloc, failed)?); // Err: the box with `failed`
-//! cell.read(&mut cell.note()); // Some(done)
+//! let ending = Ending::Fault(3);
+//! let failed = Verdict { task: 0, ending };
+//! assert!(rt; cell.put(&mut note, Box::new(alloc, failed)?).is_err()); // the first one stands
+//! assert_eq!(rt; cell.read(&mut cell.note()), Some(done));
 //! ```
 //!
 //! # Behaviour
@@ -48,7 +50,7 @@
 //!
 //! # Tests
 //!
-//! They stand in `src/tests.rt`.
+//! They stand in `src/tests.rt`, and the lines above in `src/tests/usage.rt`.
 #![tactic(auto)]
 
 mod cell;

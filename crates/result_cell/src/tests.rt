@@ -1,4 +1,6 @@
 //! Tests of the cells: what no contract says, and how callers rest on what the contracts say.
+mod usage;
+
 ghost use Rattle.std.specs.Prelude.{◌≡◌, ◌≢◌, ℕ, ◌<◌, true, false, ◌&&◌, Some, length, IfOk, OnOk, IfSome};
 ghost use Rattle.result_cell.specs.Cells.{KnowTheSame, AreNotesOf, known_at};
 

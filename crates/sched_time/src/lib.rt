@@ -7,16 +7,18 @@
 //! [`moment`] adds an offset to a moment. A [`Timing`] says how often a task runs, and [`next_due`] when it runs again.
 //!
 //! ```rust
-//! let delay = span(5, Unit::Ms)?;                    // 5,000,000 nanoseconds
-//! let at = moment(7, delay.nanos())?;                // 5,000,007
-//! span(-5, Unit::Ms)?.nanos();                       // 0: at once
-//! period(0, Unit::Ms)?;                              // None: no period
+//! let delay = span(5, Unit::Ms)?;
+//! assert_eq!(rt; moment(7, delay.nanos())?, 5_000_007);
+//! assert_eq!(rt; span(-5, Unit::Ms)?.nanos(), 0); // at once
+//! assert_eq!(rt; period(0, Unit::Ms)?, None); // no period
 //!
-//! next_due(Timing::Once, at, at + 3);                // None: there is one run
-//! next_due(Timing::Rate(delay), at, at + 3);         // Some(10,000,007): a period after the moment it was due
-//! next_due(Timing::Fixed(delay), at, at + 3);        // Some(10,000,010): a delay after its end
+//! // A run that was due at 7 has ended at 9.
+//! assert_eq!(rt; next_due(Timing::Once, 7, 9), None);
+//! assert_eq!(rt; next_due(Timing::Rate(delay), 7, 9), Some(5_000_007));
+//! assert_eq!(rt; next_due(Timing::Fixed(delay), 7, 9), Some(5_000_009));
 //!
-//! Policies::defaults().with(Which::Remove, true);    // the policies once a cancelled task leaves the queue at once
+//! // The policies once a cancelled task leaves the queue at once.
+//! assert!(rt; Policies::defaults().with(Which::Remove, true).removes);
 //! ```
 //!
 //! # Behaviour
@@ -44,7 +46,7 @@
 //!
 //! # Tests
 //!
-//! They stand in `src/tests.rt`.
+//! They stand in `src/tests.rt`, and the lines above in `src/tests/usage.rt`.
 #![tactic(auto)]
 
 mod conversions;

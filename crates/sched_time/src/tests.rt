@@ -1,4 +1,6 @@
 //! Spans and moments by hand.
+mod usage;
+
 use crate::{
     Ending, LONGEST, Policies, TimeError, Timing, Unit, Which, moment, next_due, period, span,
 };

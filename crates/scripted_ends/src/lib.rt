@@ -4,11 +4,15 @@
 //! # Usage
 //!
 //! ```rust
-//! let script = Script { interrupts: 1, ..Script::smooth(3) };
+//! let script = Script {
+//!     interrupts: 1,
+//!     ..Script::smooth(3)
+//! };
 //! let mut reader = Giving::new(b"clock", b"", script);
-//! reader.read(&mut buf);  // Err: the first call is interrupted
-//! reader.read(&mut buf)?; // 3
-//! reader.calls();         // 2
+//! let mut buffer = [0u8; 5];
+//! assert!(rt; reader.read(&mut buffer).is_err()); // the first call is interrupted
+//! assert_eq!(rt; reader.read(&mut buffer)?, 3);
+//! assert_eq!(rt; reader.calls(), 2);
 //! ```
 //!
 //! # Behaviour
@@ -28,12 +32,14 @@
 //!
 //! # Tests
 //!
-//! They stand in the crates that use it.
+//! That of the lines above stands in `src/tests.rt`, all others in the crates that use it.
 #![tactic(auto)]
 
 mod giving;
 mod script;
 mod taking;
+#[cfg(test)]
+mod tests;
 
 pub use giving::Giving;
 pub use script::{Script, Trouble};

@@ -10,19 +10,29 @@
 //!
 //! ```rust
 //! let mut queue = SlotQueue::new(alloc, 2)?;
-//! queue.insert(Entry { due: 5, rank: 8u64, slot: 0 });
-//! queue.insert(Entry { due: 5, rank: 7u64, slot: 1 });
+//! queue.insert(Entry {
+//!     due: 5,
+//!     rank: 8u64,
+//!     slot: 0,
+//! });
+//! queue.insert(Entry {
+//!     due: 5,
+//!     rank: 7u64,
+//!     slot: 1,
+//! });
+//! queue.reserve(3)?; // room for the slots 0, 1 and 2
+//! queue.insert(Entry {
+//!     due: 3,
+//!     rank: 9u64,
+//!     slot: 2,
+//! });
 //!
-//! queue.reserve(3)?; // Room for the slots 0, 1 and 2.
-//! queue.insert(Entry { due: 3, rank: 9u64, slot: 2 });
-//!
-//! queue.peek();     // Some(Entry { due: 3, rank: 9, slot: 2 })
-//! queue.poll(2);    // None: nothing is due yet
-//! queue.poll(3);    // Some(Entry { due: 3, rank: 9, slot: 2 })
-//! queue.poll(5);    // Some(Entry { due: 5, rank: 7, slot: 1 })
-//! queue.due_of(0);  // Some(5)
-//! queue.remove(0);  // true
-//! queue.is_empty(); // true
+//! assert_eq!(rt; queue.poll(2), None); // nothing is due yet
+//! assert_eq!(rt; queue.poll(3).map(|entry| entry.slot), Some(2));
+//! assert_eq!(rt; queue.poll(5).map(|entry| entry.slot), Some(1)); // its rank is the lower one
+//! assert_eq!(rt; queue.due_of(0), Some(5));
+//! assert!(rt; queue.remove(0));
+//! assert!(rt; queue.is_empty());
 //! ```
 //!
 //! # Behaviour

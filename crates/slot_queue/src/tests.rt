@@ -29,7 +29,7 @@ fn unranked(due: u64, slot: u32) -> Entry<NoRank>
 }
 
 #[test]
-fn the_lines_of_the_page(rt: HostRuntime) -> Result<(), Fail> {
+fn the_least_comes_out_once_it_is_due(rt: HostRuntime) -> Result<(), Fail> {
     let mut queue = SlotQueue::new(rt.alloc(), 2)?;
     queue.insert(ranked(5, 8, 0));
     queue.insert(ranked(5, 7, 1));
@@ -43,6 +43,38 @@ fn the_lines_of_the_page(rt: HostRuntime) -> Result<(), Fail> {
     assert_eq!(rt; queue.due_of(0), Some(5));
     let removed = [queue.remove(0), queue.remove(0)];
     assert_eq!(rt; (removed, queue.is_empty()), ([true, false], true));
+    Ok(())
+}
+
+#[test]
+fn the_page_is_run(rt: HostRuntime) -> Result<(), Fail> {
+    let alloc = rt.alloc();
+    // example: slot_queue
+    let mut queue = SlotQueue::new(alloc, 2)?;
+    queue.insert(Entry {
+        due: 5,
+        rank: 8u64,
+        slot: 0,
+    });
+    queue.insert(Entry {
+        due: 5,
+        rank: 7u64,
+        slot: 1,
+    });
+    queue.reserve(3)?; // room for the slots 0, 1 and 2
+    queue.insert(Entry {
+        due: 3,
+        rank: 9u64,
+        slot: 2,
+    });
+
+    assert_eq!(rt; queue.poll(2), None); // nothing is due yet
+    assert_eq!(rt; queue.poll(3).map(|entry| entry.slot), Some(2));
+    assert_eq!(rt; queue.poll(5).map(|entry| entry.slot), Some(1)); // its rank is the lower one
+    assert_eq!(rt; queue.due_of(0), Some(5));
+    assert!(rt; queue.remove(0));
+    assert!(rt; queue.is_empty());
+    // end of example
     Ok(())
 }
 

@@ -3,10 +3,11 @@
 //! # Usage
 //!
 //! ```rust
-//! if is_name(text) {
-//!     let name = Name::new(text);    // a copy of it
-//!     name.as_str();                 // "backup"
-//! }
+//! let text = "backup";
+//! assert!(rt; is_name(text));
+//! let name = Name::new(text); // a copy of it
+//! assert_eq!(rt; name.as_str(), "backup");
+//! assert!(rt; !is_name("back up"));
 //! ```
 //!
 //! # Behaviour

@@ -3,6 +3,17 @@
 use crate::{Name, is_name};
 
 #[test]
+fn the_page_is_run(rt: HostRuntime) {
+    // example: task_name
+    let text = "backup";
+    assert!(rt; is_name(text));
+    let name = Name::new(text); // a copy of it
+    assert_eq!(rt; name.as_str(), "backup");
+    assert!(rt; !is_name("back up"));
+    // end of example
+}
+
+#[test]
 fn a_name_keeps_its_text(rt: HostRuntime) {
     for text in ["a", "Z", "back-up_7", "0123456789abcdefghijklmnopqrstuv"] {
         assert!(rt; is_name(text));

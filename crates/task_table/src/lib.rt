@@ -7,21 +7,17 @@
 //! table each call and each event, at its moment, and the table tells what becomes of the tasks.
 //!
 //! ```rust
-//! let mut table = TaskTable::new(alloc, 1)?;
-//! table.reserve(2)?;
-//! table.admit(0, 0, 5, Timing::Once, 10); // 15: task 0, in slot 0, is due then
-//! table.admit(1, 1, 5, Timing::Once, 10); // 15: task 1, in slot 1
-//! table.start(0);                         // Ok(None): none is due at 5
-//! table.next_due();                       // Some(15)
-//!
-//! table.clock(15)?;
-//! table.start(0);                         // Ok(Some(..)): run 0 of task 0, which was submitted first
-//! table.finish(0, Ending::Value(7))?;     // task 0 is done, with 7
-//! table.release(0);
-//! table.cancel(1);                        // CancelEffect::Yes: task 1 is kept in the queue
-//! table.drop_met();                       // Some(1): the next start would meet it
-//! table.start(0);                         // Ok(None)
+//! let mut table = TaskTable::new(alloc, 2)?;
+//! table.reserve(3)?; // slots for three tasks
+//! assert_eq!(rt; (table.workers(), table.slots()), (2, 3));
+//! table.clock(5)?;
+//! assert_eq!(rt; table.clock(4), Err(EventError::Backward));
+//! assert_eq!(rt; (table.now(), table.next_due()), (5, None)); // no task waits
 //! ```
+//!
+//! A task comes into an empty slot by [`admit`](TaskTable::admit), is run from a [`start`](TaskTable::start) to a
+//! [`finish`](TaskTable::finish), and leaves its slot by [`release`](TaskTable::release). These calls ask for what the one above
+//! keeps, as that the slot is empty and the number is new.
 //!
 //! # Behaviour
 //!

@@ -43,6 +43,16 @@ impl HandleSeat {
     /// cancelled, or cancelled it, it is cancelled, and has the very rank met then. Where the handle's last
     /// step met it ended, it has the phase and the run met then. Past the table it answers
     /// [`CancelAnswer::NoTask`], and nothing is touched.
+    ///
+    /// ```rust
+    /// let (words, mut core) = TaskWords::new(alloc, 2)?;
+    /// core.submit(&words, 0);
+    /// let mut handle = core.split(&words)?;
+    /// assert!(rt; handle.cancel(&words, 0) == CancelAnswer::Yes);
+    /// assert!(rt; handle.cancel(&words, 0) == CancelAnswer::No); // it was cancelled before
+    /// assert!(rt; handle.cancel(&words, 1) == CancelAnswer::Absent); // it is not submitted
+    /// assert!(rt; core.start(&words, 0) == Moved::Cancelled);
+    /// ```
     pub fn cancel<A: Allocator>(&mut self, words: &TaskWords<A>, k: u32) -> CancelAnswer
         requires table { self.old.table ≡ words.now.table }
         ensures table { self.new.table ≡ self.old.table }

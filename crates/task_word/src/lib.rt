@@ -8,16 +8,18 @@
 //! are out, and [`TaskWords::close`] gives the words as numbers once all threads have returned.
 //!
 //! ```rust
-//! let (words, mut core) = TaskWords::new(alloc, 2)?;  // the tasks 0 and 1
-//! core.submit(&words, 0);                             // task 0 waits for run 0
-//! core.start(&words, 0);                              // Moved::Yes: it is run
-//! let mut handle = core.split(&words)?;               // for another thread
-//! handle.state(&words, 0);                            // TaskState::Running
-//! handle.cancel(&words, 0);                           // CancelAnswer::Yes
-//! handle.cancel(&words, 1);                           // CancelAnswer::Absent: it was not submitted
-//! core.done(&words, 0);                               // Moved::Cancelled: its end is not written
+//! let (words, mut core) = TaskWords::new(alloc, 1)?; // of task 0
+//! core.submit(&words, 0); // task 0 waits for run 0
+//! assert!(rt; core.start(&words, 0) == Moved::Yes); // it is run
+//!
+//! let mut handle = core.split(&words)?; // for another thread
+//! assert!(rt; handle.state(&words, 0) == TaskState::Running);
+//! assert!(rt; handle.cancel(&words, 0) == CancelAnswer::Yes);
+//! assert!(rt; core.done(&words, 0) == Moved::Cancelled); // its end is not written
+//!
 //! core.join(&words, handle);
-//! let last = words.close(alloc, core)?;               // [9223372036854775810, 9223372036854775808]
+//! let last = words.close(alloc, core)?;
+//! assert_eq!(rt; last.as_slice(), [(1 << 63) + 2].as_slice());
 //! ```
 //!
 //! # Behaviour
@@ -57,7 +59,8 @@
 //! constant time, but `new` and `close`, which go over the tasks. A handle that is dropped and not joined counts as out for
 //! good.
 //!
-//! The tests stand in `src/tests.rt`, and those of sizes, handles and memory in `src/table_tests.rt`.
+//! The tests stand in `src/tests.rt`, the lines above in `src/tests/usage.rt`, and tests of sizes, handles and memory in
+//! `src/table_tests.rt`.
 #![tactic(auto)]
 
 mod answers;

@@ -1,3 +1,5 @@
+mod usage;
+
 ghost use Rattle.std.specs.Prelude.{◌≡◌, ◌<◌, ◌∷◌, true, false, IfSome};
 ghost use Rattle.task_word.specs.declared.phases.Phase.TheVariants.{New};
 ghost use Rattle.task_word.specs.Words.{started, marked, is_live, is_cancelled};

@@ -38,14 +38,19 @@ impl<A: Allocator> Core<A> {
     /// Whether a call of the plan comes next, before this event: it is a clock that is accepted, and reaches a call that is not
     /// made yet. Where none does, the event itself [may come](Core::may_come).
     ///
-    /// So an event's part is this, and cancels of its own that a layer notes may stand between two happenings of it:
+    /// So an event's part is what follows, and cancels of its own that a layer notes may stand between two happenings of it.
+    /// Here a clock reaches one call; as long as it reaches one, the next call happens.
     ///
     /// ```rust
+    /// let event = Event::Clock(9);
+    /// assert!(rt; !core.full());
     /// core.count();
-    /// while core.reaches_call(event) {
-    ///     core.happen(Happening::Call, &mut lines);
-    /// }
-    /// core.happen(event.happening(), &mut lines);
+    /// lines.reserve(core.room())?;
+    /// assert!(rt; core.reaches_call(event)); // so the call at 3 comes first
+    /// assert!(rt; core.may_come(Happening::Call));
+    /// core.happen(Happening::Call, &mut lines);
+    /// assert!(rt; !core.reaches_call(event)); // so the event comes next
+    /// assert!(rt; core.may_come(event.happening()));
     /// ```
     #[inline(always)]
     pub fn reaches_call(&self, event: Event) -> bool
