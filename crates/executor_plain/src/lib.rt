@@ -3,8 +3,8 @@
 //! # Usage
 //!
 //! ```rust
-//! // Two lines: the clock is at 3, and the worker gets no work.
 //! let lines = trace(alloc, &[], 1, &[Event::Clock(3), Event::Start(0)])?;
+//! assert_eq!(rt; lines.len(), 2); // the clock is at 3, and the worker gets no work
 //! ```
 //!
 //! [`trace`] gives the lines of some events, as a core of the same calls does, and [`trace_of_happenings`] those of
@@ -35,7 +35,8 @@
 //!
 //! # Tests
 //!
-//! `src/tests` compares this program with cores, and the tests of `executor_core` by itself stand in `src/tests/cores`.
+//! `trace_check/src/tests/row_by_row.rt` compares this program with cores, over the crate `rows`. The tests of `executor_core` by
+//! itself stand in `src/tests/cores`.
 #![tactic(auto)]
 
 mod ends;

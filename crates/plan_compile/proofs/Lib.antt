@@ -6,3 +6,5 @@ pub mod NoFault
 pub mod Emission
 pub mod Periods
 pub mod Units
+pub mod Ops
+pub mod Told

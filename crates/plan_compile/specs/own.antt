@@ -1,2 +1,3 @@
 -- What no public clause of this crate, or of those above it, leads to: means of its own contracts and proofs.
+pub mod Places
 pub mod PlanCode

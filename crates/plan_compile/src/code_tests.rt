@@ -119,8 +119,19 @@ fn makes_its_calls(rt: &impl AllocGlobal, text: &str, most: usize) -> Result<boo
     Ok(calls.len() == most && makes(&mut cursor, &code, &calls) && cursor.fetch(&code).is_none())
 }
 
+/// A plan, the listing of its code, and how many calls it makes.
+#[derive(Clone, Copy)]
+struct Row<'a> {
+    name: &'a str,
+    text: &'a str,
+    listing: &'a str,
+    calls: usize,
+}
+
 /// Three iterations of a submission and its cancel.
-const THREE_TIMES: &str = "version = 1
+const A_REPEATED_BLOCK_IS_A_LOOP: Row<'static> = Row {
+    name: "a repeated block is a loop",
+    text: "version = 1
 [[block]]
 at = 100
 times = 3
@@ -129,44 +140,21 @@ call = [
   { op = \"schedule\", name = \"a\", delay = 50 },
   { op = \"cancel\", name = \"a\", at = 4 },
 ]
-";
+",
+    listing: "0 loop 3 every 10\n1 submit 100 schedule 50\n2 cancel 104 here 0\n3 endloop\n4 halt\n",
+    calls: 6,
+};
 
-#[test]
-fn a_repeated_block_is_a_loop(rt: HostRuntime) -> Result<(), Fail> {
-    assert_eq!(rt;
-        listed(&rt, THREE_TIMES)?.as_str(),
-        "0 loop 3 every 10\n1 submit 100 schedule 50\n2 cancel 104 here 0\n3 endloop\n4 halt\n"
-    );
-    assert!(rt; makes_its_calls(&rt, THREE_TIMES, 6)?);
-    Ok(())
-}
+const THE_CODE_FOLLOWS_THE_TEXT_AND_NOT_THE_ITERATIONS: Row<'static> = Row {
+    name: "the code follows the text and not the iterations",
+    text: "version = 1\n[[block]]\ntimes = 65536\nevery = 1\ncall = [{ op = \"ask\" }]",
+    listing: "0 loop 65536 every 1\n1 ask 0\n2 endloop\n3 halt\n",
+    calls: 65_536,
+};
 
-#[test]
-fn a_loop_is_walked_by_its_instructions(rt: HostRuntime) -> Result<(), Fail> {
-    let plan = read_plan(rt.alloc(), THREE_TIMES.as_bytes())?;
-    let code = compile(rt.alloc(), &plan)?;
-    let calls = counted(rt.alloc(), &plan)?;
-    let mut cursor = Cursor::new(&code);
-    assert!(rt; makes(&mut cursor, &code, &calls));
-    assert!(rt; cursor.steps() >= 9);
-    assert!(rt; cursor.fetch(&code).is_none());
-    Ok(())
-}
-
-#[test]
-fn the_code_follows_the_text_and_not_the_iterations(rt: HostRuntime) -> Result<(), Fail> {
-    let text = "version = 1\n[[block]]\ntimes = 65536\nevery = 1\ncall = [{ op = \"ask\" }]";
-    assert_eq!(rt;
-        listed(&rt, text)?.as_str(),
-        "0 loop 65536 every 1\n1 ask 0\n2 endloop\n3 halt\n"
-    );
-    assert!(rt; makes_its_calls(&rt, text, 65_536)?);
-    Ok(())
-}
-
-#[test]
-fn submissions_that_are_illegal_keep_their_place(rt: HostRuntime) -> Result<(), Fail> {
-    let text = "version = 1
+const SUBMISSIONS_THAT_ARE_ILLEGAL_KEEP_THEIR_PLACE: Row<'static> = Row {
+    name: "submissions that are illegal keep their place",
+    text: "version = 1
 [[block]]
 call = [
   { op = \"schedule\", name = \"a\", delay = -5 },
@@ -175,18 +163,14 @@ call = [
   { op = \"fixed\", name = \"c\", first = 1, delay = -1 },
   { op = \"rate\", name = \"d\", first = 1, period = 1 },
 ]
-";
-    assert_eq!(rt;
-        listed(&rt, text)?.as_str(),
-        "0 submit 0 schedule 0\n1 illegal 0\n2 shutdown 0\n3 illegal 0\n4 submit 0 rate 1 1\n5 halt\n"
-    );
-    assert!(rt; makes_its_calls(&rt, text, 5)?);
-    Ok(())
-}
+",
+    listing: "0 submit 0 schedule 0\n1 illegal 0\n2 shutdown 0\n3 illegal 0\n4 submit 0 rate 1 1\n5 halt\n",
+    calls: 5,
+};
 
-#[test]
-fn times_of_different_units_are_compiled_in_nanoseconds(rt: HostRuntime) -> Result<(), Fail> {
-    let text = "version = 2
+const TIMES_OF_DIFFERENT_UNITS_ARE_COMPILED_IN_NANOSECONDS: Row<'static> = Row {
+    name: "times of different units are compiled in nanoseconds",
+    text: "version = 2
 [[block]]
 at = 1
 at_unit = \"min\"
@@ -200,65 +184,31 @@ first = 500
 first_unit = \"ms\"
 period = 1
 period_unit = \"d\"
-";
-    assert_eq!(rt;
-        listed(&rt, text)?.as_str(),
-        "0 loop 2 every 3600000000000
+",
+    listing: "0 loop 2 every 3600000000000
 1 submit 60000000000 rate 500000000 86400000000000
 2 endloop
 3 halt
-"
-    );
-    assert!(rt; makes_its_calls(&rt, text, 2)?);
-    Ok(())
-}
+",
+    calls: 2,
+};
 
-#[test]
-fn plans_without_calls_have_a_halt_alone(rt: HostRuntime) -> Result<(), Fail> {
-    for text in [
-        "version = 1",
-        "version = 1\nblock = []",
-        "version = 1\n[[block]]\nat = 4611686018427387904",
-        "version = 1\n[[block]]\ntimes = 65536\nevery = 4611686018427387904",
-    ] {
-        assert_eq!(rt; listed(&rt, text)?.as_str(), "0 halt\n", "{text}");
-        assert!(rt; makes_its_calls(&rt, text, 0)?);
-    }
-    Ok(())
-}
-
-#[test]
-fn one_iteration_is_no_loop(rt: HostRuntime) -> Result<(), Fail> {
-    for every in [0u64, 1, 4_611_686_018_427_387_904] {
-        let text = format!(in rt.alloc();
-            "version = 1\n[[block]]\nat = 7\ntimes = 1\nevery = {every}\ncall = [{{ op = \"ask\", at = 2 }}]"
-        )?;
-        assert_eq!(rt; listed(&rt, &text)?.as_str(), "0 ask 9\n1 halt\n");
-        assert!(rt; makes_its_calls(&rt, &text, 1)?);
-    }
-    Ok(())
-}
-
-#[test]
-fn iterations_may_be_at_one_moment(rt: HostRuntime) -> Result<(), Fail> {
-    let text = "version = 1
+const ITERATIONS_MAY_BE_AT_ONE_MOMENT: Row<'static> = Row {
+    name: "iterations may be at one moment",
+    text: "version = 1
 [[block]]
 at = 3
 times = 2
 every = 0
 call = [{ op = \"fixed\", name = \"a\", first = 2, delay = 6 }, { op = \"ask\" }]
-";
-    assert_eq!(rt;
-        listed(&rt, text)?.as_str(),
-        "0 loop 2 every 0\n1 submit 3 fixed 2 6\n2 ask 3\n3 endloop\n4 halt\n"
-    );
-    assert!(rt; makes_its_calls(&rt, text, 4)?);
-    Ok(())
-}
+",
+    listing: "0 loop 2 every 0\n1 submit 3 fixed 2 6\n2 ask 3\n3 endloop\n4 halt\n",
+    calls: 4,
+};
 
-#[test]
-fn the_greatest_numbers_are_taken(rt: HostRuntime) -> Result<(), Fail> {
-    let text = "version = 1
+const THE_GREATEST_NUMBERS_ARE_TAKEN: Row<'static> = Row {
+    name: "the greatest numbers are taken",
+    text: "version = 1
 [[block]]
 times = 2
 every = 4611686018427387904
@@ -268,26 +218,22 @@ at = 4611686018427387904
 times = 65534
 every = 0
 call = [{ op = \"ask\" }]
-";
-    assert_eq!(rt;
-        listed(&rt, text)?.as_str(),
-        "0 loop 2 every 4611686018427387904
+",
+    listing: "0 loop 2 every 4611686018427387904
 1 submit 0 rate 4611686018427387904 4611686018427387904
 2 endloop
 3 loop 65534 every 0
 4 ask 4611686018427387904
 5 endloop
 6 halt
-"
-    );
-    assert!(rt; makes_its_calls(&rt, text, 65_536)?);
-    Ok(())
-}
+",
+    calls: 65_536,
+};
 
 /// Blocks that are repeated stand between others, with cancels of each kind.
-#[test]
-fn cancels_name_their_own_iteration_or_a_number(rt: HostRuntime) -> Result<(), Fail> {
-    let text = "version = 1
+const CANCELS_NAME_THEIR_OWN_ITERATION_OR_A_NUMBER: Row<'static> = Row {
+    name: "cancels name their own iteration or a number",
+    text: "version = 1
 [[block]]
 call = [
   { op = \"rate\", name = \"a\", first = 1, period = 0 },
@@ -316,10 +262,8 @@ call = [
   { op = \"cancel\", name = \"e\" },
   { op = \"cancel\", name = \"f\" },
 ]
-";
-    assert_eq!(rt;
-        listed(&rt, text)?.as_str(),
-        "0 illegal 0
+",
+    listing: "0 illegal 0
 1 submit 0 schedule 0
 2 cancel 0 task 0
 3 loop 2 every 1000
@@ -336,15 +280,13 @@ call = [
 14 cancel 2000 here 0
 15 endloop
 16 halt
-"
-    );
-    assert!(rt; makes_its_calls(&rt, text, 19)?);
-    Ok(())
-}
+",
+    calls: 19,
+};
 
-#[test]
-fn policies_a_shutdown_and_questions_are_compiled(rt: HostRuntime) -> Result<(), Fail> {
-    let text = "version = 1
+const POLICIES_A_SHUTDOWN_AND_QUESTIONS_ARE_COMPILED: Row<'static> = Row {
+    name: "policies a shutdown and questions are compiled",
+    text: "version = 1
 [[block]]
 at = 5
 unit = \"us\"
@@ -358,10 +300,8 @@ at = 6000
 times = 3
 every = 2
 call = [{ op = \"policy\", which = \"remove\", value = true }, { op = \"shutdown\", at = 2 }]
-";
-    assert_eq!(rt;
-        listed(&rt, text)?.as_str(),
-        "0 policy 5000 continue true
+",
+    listing: "0 policy 5000 continue true
 1 policy 5000 execute false
 2 ask 6000
 3 loop 3 every 2
@@ -369,15 +309,13 @@ call = [{ op = \"policy\", which = \"remove\", value = true }, { op = \"shutdown
 5 shutdown 6002
 6 endloop
 7 halt
-"
-    );
-    assert!(rt; makes_its_calls(&rt, text, 9)?);
-    Ok(())
-}
+",
+    calls: 9,
+};
 
-#[test]
-fn an_execute_is_a_schedule_without_a_delay(rt: HostRuntime) -> Result<(), Fail> {
-    let text = "version = 1
+const AN_EXECUTE_IS_A_SCHEDULE_WITHOUT_A_DELAY: Row<'static> = Row {
+    name: "an execute is a schedule without a delay",
+    text: "version = 1
 [[block]]
 at = 5
 call = [
@@ -396,10 +334,8 @@ call = [
   { op = \"cancel\", name = \"d\", at = 4 },
   { op = \"cancel\", name = \"b\", at = 10 },
 ]
-";
-    assert_eq!(rt;
-        listed(&rt, text)?.as_str(),
-        "0 submit 5 schedule 0
+",
+    listing: "0 submit 5 schedule 0
 1 submit 6 schedule 0
 2 cancel 6 task 1
 3 loop 2 every 10000
@@ -409,15 +345,13 @@ call = [
 7 cancel 30000 task 1
 8 endloop
 9 halt
-"
-    );
-    assert!(rt; makes_its_calls(&rt, text, 11)?);
-    Ok(())
-}
+",
+    calls: 11,
+};
 
-#[test]
-fn a_shutdown_at_once_is_compiled(rt: HostRuntime) -> Result<(), Fail> {
-    let text = "version = 1
+const A_SHUTDOWN_AT_ONCE_IS_COMPILED: Row<'static> = Row {
+    name: "a shutdown at once is compiled",
+    text: "version = 1
 [[block]]
 call = [{ op = \"shutdown_now\", at = 3 }, { op = \"shutdown\", at = 3 }]
 [[block]]
@@ -429,10 +363,8 @@ call = [
   { op = \"shutdown_now\", at = 1 },
   { op = \"cancel\", name = \"a\", at = 2 },
 ]
-";
-    assert_eq!(rt;
-        listed(&rt, text)?.as_str(),
-        "0 shutdown_now 3
+",
+    listing: "0 shutdown_now 3
 1 shutdown 3
 2 loop 2 every 2
 3 submit 4 schedule 0
@@ -440,9 +372,93 @@ call = [
 5 cancel 6 here 0
 6 endloop
 7 halt
-"
-    );
-    assert!(rt; makes_its_calls(&rt, text, 8)?);
+",
+    calls: 8,
+};
+
+const A_PLAN_WITHOUT_CALLS_HAS_A_HALT_ALONE: Row<'static> = Row {
+    name: "a plan without calls has a halt alone",
+    text: "version = 1",
+    listing: "0 halt\n",
+    calls: 0,
+};
+
+const AN_EMPTY_LIST_OF_BLOCKS: Row<'static> = Row {
+    name: "an empty list of blocks",
+    text: "version = 1\nblock = []",
+    ..A_PLAN_WITHOUT_CALLS_HAS_A_HALT_ALONE
+};
+
+const A_LATE_BLOCK_WITHOUT_CALLS: Row<'static> = Row {
+    name: "a late block without calls",
+    text: "version = 1\n[[block]]\nat = 4611686018427387904",
+    ..A_PLAN_WITHOUT_CALLS_HAS_A_HALT_ALONE
+};
+
+const MANY_ITERATIONS_WITHOUT_CALLS: Row<'static> = Row {
+    name: "many iterations without calls",
+    text: "version = 1\n[[block]]\ntimes = 65536\nevery = 4611686018427387904",
+    ..A_PLAN_WITHOUT_CALLS_HAS_A_HALT_ALONE
+};
+
+const ONE_ITERATION_IS_NO_LOOP: Row<'static> = Row {
+    name: "one iteration is no loop",
+    text: "version = 1\n[[block]]\nat = 7\ntimes = 1\nevery = 0\ncall = [{ op = \"ask\", at = 2 }]",
+    listing: "0 ask 9\n1 halt\n",
+    calls: 1,
+};
+
+const ONE_ITERATION_EVERY_NANOSECOND: Row<'static> = Row {
+    name: "one iteration every nanosecond",
+    text: "version = 1\n[[block]]\nat = 7\ntimes = 1\nevery = 1\ncall = [{ op = \"ask\", at = 2 }]",
+    ..ONE_ITERATION_IS_NO_LOOP
+};
+
+const ONE_ITERATION_AS_RARELY_AS_CAN_BE: Row<'static> = Row {
+    name: "one iteration as rarely as can be",
+    text: "version = 1\n[[block]]\nat = 7\ntimes = 1\nevery = 4611686018427387904\ncall = [{ op = \"ask\", at = 2 }]",
+    ..ONE_ITERATION_IS_NO_LOOP
+};
+
+const ROWS: [Row<'static>; 17] = [
+    A_REPEATED_BLOCK_IS_A_LOOP,
+    THE_CODE_FOLLOWS_THE_TEXT_AND_NOT_THE_ITERATIONS,
+    SUBMISSIONS_THAT_ARE_ILLEGAL_KEEP_THEIR_PLACE,
+    TIMES_OF_DIFFERENT_UNITS_ARE_COMPILED_IN_NANOSECONDS,
+    ITERATIONS_MAY_BE_AT_ONE_MOMENT,
+    THE_GREATEST_NUMBERS_ARE_TAKEN,
+    CANCELS_NAME_THEIR_OWN_ITERATION_OR_A_NUMBER,
+    POLICIES_A_SHUTDOWN_AND_QUESTIONS_ARE_COMPILED,
+    AN_EXECUTE_IS_A_SCHEDULE_WITHOUT_A_DELAY,
+    A_SHUTDOWN_AT_ONCE_IS_COMPILED,
+    A_PLAN_WITHOUT_CALLS_HAS_A_HALT_ALONE,
+    AN_EMPTY_LIST_OF_BLOCKS,
+    A_LATE_BLOCK_WITHOUT_CALLS,
+    MANY_ITERATIONS_WITHOUT_CALLS,
+    ONE_ITERATION_IS_NO_LOOP,
+    ONE_ITERATION_EVERY_NANOSECOND,
+    ONE_ITERATION_AS_RARELY_AS_CAN_BE,
+];
+
+#[test]
+fn each_plan_has_its_code(rt: HostRuntime) -> Result<(), Fail> {
+    for row in &ROWS {
+        let listing = listed(&rt, row.text)?;
+        assert!(rt; listing.as_str() == row.listing, "{}: {listing}", row.name);
+        assert!(rt; makes_its_calls(&rt, row.text, row.calls)?, "{}", row.name);
+    }
+    Ok(())
+}
+
+#[test]
+fn a_loop_is_walked_by_its_instructions(rt: HostRuntime) -> Result<(), Fail> {
+    let plan = read_plan(rt.alloc(), A_REPEATED_BLOCK_IS_A_LOOP.text.as_bytes())?;
+    let code = compile(rt.alloc(), &plan)?;
+    let calls = counted(rt.alloc(), &plan)?;
+    let mut cursor = Cursor::new(&code);
+    assert!(rt; makes(&mut cursor, &code, &calls));
+    assert!(rt; cursor.steps() >= 9);
+    assert!(rt; cursor.fetch(&code).is_none());
     Ok(())
 }
 
@@ -479,13 +495,13 @@ fn lists_over(rt: &impl Abort, heap: &LocalHeap, plan: &Plan<Global>, wanted: &s
 /// that is refused in one of them.
 #[test]
 fn a_plan_without_memory_is_not_compiled(rt: HostRuntime) -> Result<(), Fail> {
-    let plan = read_plan(rt.alloc(), THREE_TIMES.as_bytes())?;
-    let wanted = listed(&rt, THREE_TIMES)?;
+    let plan = read_plan(rt.alloc(), A_REPEATED_BLOCK_IS_A_LOOP.text.as_bytes())?;
+    let wanted = A_REPEATED_BLOCK_IS_A_LOOP.listing;
     let mut refused = 0u32;
     let mut made = 0u32;
     for step in 0..100usize {
         let heap = LocalHeap::new(rt.alloc(), 64 + 16 * step)?;
-        if lists_over(&rt, &heap, &plan, &wanted) {
+        if lists_over(&rt, &heap, &plan, wanted) {
             made = made.saturating_add(1);
         } else {
             assert_eq!(rt; made, 0, "{step}");

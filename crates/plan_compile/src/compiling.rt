@@ -17,6 +17,15 @@ use std::alloc::Allocator;
 /// nanosecond.
 ///
 /// The only error is [`CompileFault::Memory`], where the allocator refused memory; what was begun is dropped then.
+///
+/// ```rust
+/// let text = b"version = 2\n[[block]]\nat = 5\n[[block.call]]\nop = \"ask\"\n";
+/// let code = compile(alloc, &read_plan(alloc, text)?)?;
+/// assert_eq!(rt; (code.calls(), code.tasks()), (1, 0));
+/// let mut cursor = Cursor::new(&code);
+/// assert_eq!(rt; cursor.fetch(&code), Some((5, CodeCall::Ask)));
+/// assert_eq!(rt; cursor.fetch(&code), None);
+/// ```
 pub fn compile<A: Allocator + Copy, B: Allocator>(
     alloc: A,
     plan: &Plan<B>,

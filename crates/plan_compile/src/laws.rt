@@ -1,4 +1,4 @@
-//! What holds of the calls of each plan, and of the limits on its text and its calls.
+//! What holds of the calls and submissions of each plan, and of the limits on its text and its calls.
 ghost use Rattle.std.specs.Prelude.{◌≡◌, ◌↔◌, ℕ, List, true};
 ghost use Rattle.plan_read.specs.Data.{Members};
 ghost use Rattle.queue_code.specs.Calls.{IsPlanned, most_calls_of_code};
@@ -8,6 +8,7 @@ ghost use Rattle.plan_read.specs.Texts.{TextWrites, longest_text};
 ghost use Rattle.plan_read.specs.Writes.{TreeWritesIn};
 ghost use Rattle.plan_read.specs.declared.versions.Version.TheVariants.{One, Two};
 ghost use Rattle.plan_compile.specs.PlanCalls.{calls_of_plan};
+ghost use Rattle.plan_compile.specs.SubmissionLaws.{AreThoseOfTheCalls, AreNumberedInOrder, AreNamedAsWritten};
 
 use crate::fault::CompileFault;
 use plan_read::{LONGEST_TEXT, migrated_trees_write, plans_are_ordered};
@@ -34,6 +35,22 @@ pub fn migrated_trees_call_the_same()
     migrated_trees_write();
     units_make_no_calls();
 }
+
+/// The submissions of a plan are exactly those among its calls, in their order: of the same tasks, at the same moments, of the
+/// same kinds and first due at the same moments, or illegal.
+pub fn submissions_are_those_of_the_calls()
+    ensures { AreThoseOfTheCalls }
+{}
+
+/// The submissions of a plan have the numbers 0, 1, .. in order, as many as the plan has tasks.
+pub fn submissions_are_numbered_in_order()
+    ensures { AreNumberedInOrder }
+{}
+
+/// The submissions of a plan have the names of the plan's text, block by block and iteration by iteration.
+pub fn submissions_are_named_as_written()
+    ensures { AreNamedAsWritten }
+{}
 
 /// A plan may make as many calls as a code may: the two limits are one number. And
 /// [`LONGEST_TEXT`](plan_read::LONGEST_TEXT) is the limit on a plan's text of which the contracts speak.

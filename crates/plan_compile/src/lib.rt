@@ -1,17 +1,15 @@
-//! The code of a plan: instructions that make the plan's calls, each at its moment.
+//! The code of a plan: instructions that make the plan's calls, each at its moment. And the plan's submissions, numbered and named.
 //!
 //! # Usage
 //!
 //! ```rust
-//! let plan = read_plan(alloc, text)?;
+//! let text = "version = 2\n[[block]]\nat = 100\ntimes = 3\nevery = 10\n\
+//!     call = [ { op = \"schedule\", name = \"a\", delay = 50 }, { op = \"ask\", at = 4 } ]\n";
+//! let plan = read_plan(alloc, text.as_bytes())?;
 //! let code = compile(alloc, &plan)?;
-//! listing(alloc, &code)?; // "0 loop 3 every 10\n1 submit 100 schedule 50\n2 cancel 104 here 0\n3 endloop\n4 halt\n"
-//! let mut cursor = Cursor::new(&code);
-//! cursor.fetch(&code); // Some((100, CodeCall::Submit { task: 0, timing: Timing::Once, delay: 50 }))
+//! let listed = "0 loop 3 every 10\n1 submit 100 schedule 50\n2 ask 104\n3 endloop\n4 halt\n";
+//! assert_eq!(rt; listing(alloc, &code)?.as_str(), listed);
 //! ```
-//!
-//! That is the code of a block at 100 with `times = 3` and `every = 10`, in which a `schedule` has the offset 0 and its
-//! `cancel` the offset 4.
 //!
 //! # Behaviour
 //!
@@ -40,6 +38,9 @@
 //! out, as `calls_of_plan` (`specs/PlanCalls.antt`). [`compile`] ensures both: the code is that list, and its calls are
 //! the plan's.
 //!
+//! [`Submissions`] are exactly those among the plan's calls ([`submissions_are_those_of_the_calls`]), refused ones too. A repeated
+//! block makes each of its submissions once in each iteration, so a name of the text may be that of many tasks.
+//!
 //! # Order and ties
 //!
 //! Calls are made block by block, iteration by iteration, in the order of the text, and so are those of one moment.
@@ -49,7 +50,7 @@
 //! # Errors
 //!
 //! [`CompileFault::Memory`] is the only error of [`compile`]: the code of a plan passes all checks of
-//! [`Code::check`](queue_code::Code::check). What was begun is dropped then.
+//! [`Code::check`](queue_code::Code::check). What was begun is dropped then. [`names_of_tasks`] fails for want of memory alone.
 //!
 //! # Memory and cost
 //!
@@ -57,8 +58,11 @@
 //! time follow the length of the plan's text, and not how often its blocks are repeated: each call of the text is met
 //! a few times, and a cancel looks its target's block up in the table of numbers.
 //!
-//! The tests stand in `src/code_tests.rt`, those of plan texts in `src/plan_tests`, a file for each topic, and that of the
-//! largest plan in `src/size_tests.rt`.
+//! [`Submissions`] takes no memory: it walks over blocks, iterations and calls. Each step costs the same; a block without
+//! submissions is walked over iteration by iteration.
+//!
+//! The tests stand in `src/code_tests.rt`, those of plan texts in `src/plan_tests`, a file for each topic, that of the
+//! largest plan in `src/size_tests.rt`, and examples in `src/usage_tests.rt`.
 #![tactic(auto)]
 
 #[cfg(test)]
@@ -68,15 +72,27 @@ mod emitting;
 mod fault;
 mod instrs;
 mod laws;
+mod names;
 mod numbers;
+mod place;
 #[cfg(test)]
 mod plan_tests;
 #[cfg(test)]
 mod size_tests;
+mod submission;
+#[cfg(test)]
+mod submission_tests;
+mod submissions;
+#[cfg(test)]
+mod usage_tests;
 
 pub use compiling::compile;
 pub use fault::CompileFault;
 pub use laws::{
     calls_are_in_order, compile_fault_equality_tells, limits_agree, migrated_trees_call_the_same,
-    units_make_no_calls,
+    submissions_are_named_as_written, submissions_are_numbered_in_order,
+    submissions_are_those_of_the_calls, units_make_no_calls,
 };
+pub use names::names_of_tasks;
+pub use submission::Submission;
+pub use submissions::Submissions;

@@ -16,6 +16,7 @@ mod tops;
 mod unit_faults;
 mod units;
 
+use parts::Kept;
 use plan_read::{Block, Call, Op, Plan, PlanFault, PlanFaultKind, migrate, read_plan};
 use sched_time::Span;
 use std::alloc::Global;
@@ -48,7 +49,7 @@ fn migrated(alloc: Global, text: &[u8]) -> Result<String, PlanFault> {
 }
 
 /// The text of a fault.
-fn spelled(alloc: Global, fault: &PlanFault) -> Result<String, Fail> {
+fn text_of_fault(alloc: Global, fault: &PlanFault) -> Result<String, Fail> {
     Ok(fault.to_string(alloc)?)
 }
 
@@ -62,44 +63,30 @@ fn told(alloc: Global, text: &str) -> Result<String, Fail> {
     }
 }
 
-/// The first line of a table that says wrongly what is told of its text.
-///
-/// Behind what is told a line has ` | `, and then the text's lines behind `front`, with ` / ` between them.
-fn first_wrong<'a>(alloc: Global, front: &str, table: &'a str) -> Result<Option<&'a str>, Fail> {
-    for row in table.lines() {
-        let (fault, lines) = row.split_once(" | ").ok_or("no text")?;
-        let mut text = String::from_str(alloc, front)?;
-        for (index, line) in lines.split(" / ").enumerate() {
-            if index > 0 {
-                text.push('\n')?;
-            }
-            text.push_str(line)?;
-        }
-        if told(alloc, text.as_str())?.as_str() != fault {
-            return Ok(Some(row));
-        }
+/// A text that a row spells: ` / ` stands between its lines, and signs for a newline, a return, a tab and a byte order mark.
+fn spelled(alloc: Global, row: &str) -> Result<String, Fail> {
+    let mut text = row.replace(alloc, " / ", "\n")?;
+    for (sign, meant) in [("⏎", "\n"), ("␍", "\r"), ("␉", "\t"), ("⊕", "\u{feff}")] {
+        text = text.as_str().replace(alloc, sign, meant)?;
     }
-    Ok(None)
-}
-
-/// Checks what is told of each text of a table.
-fn tells_each(rt: &(impl AllocGlobal + Abort), front: &str, table: &str) -> Result<(), Fail> {
-    assert_eq!(rt; first_wrong(rt.alloc(), front, table)?, None);
-    Ok(())
+    Ok(text)
 }
 
 /// Checks what is told of a text.
 fn tells(rt: &(impl AllocGlobal + Abort), text: &str, fault: &str) -> Result<(), Fail> {
     let answer = told(rt.alloc(), text)?;
-    assert!(rt; answer.as_str() == fault);
+    assert!(rt; answer.as_str() == fault, "{fault}: {answer}");
     Ok(())
 }
 
-/// Checks what is told of each text, which stands in front of it.
-fn tells_of(rt: &(impl AllocGlobal + Abort), texts: &[(&str, &str)]) -> Result<(), Fail> {
-    for (text, fault) in texts {
-        let answer = told(rt.alloc(), text)?;
-        assert!(rt; answer.as_str() == *fault, "{text}: {answer}");
+/// Checks what is told of each text of a table: a row has that, ` | `, and the text behind `front`.
+fn tells_each(rt: &(impl AllocGlobal + Abort), front: &str, table: &str) -> Result<(), Fail> {
+    for row in table.lines() {
+        let (fault, text) = row.split_once(" | ").ok_or("no text")?;
+        let text = spelled(rt.alloc(), text)?;
+        let text = format!(in rt.alloc(); "{front}{text}")?;
+        let answer = told(rt.alloc(), text.as_str())?;
+        assert!(rt; answer.as_str() == fault, "{row}: {answer}");
     }
     Ok(())
 }
@@ -116,14 +103,16 @@ fn has_sizes(plan: &Plan<Global>, blocks: usize, calls: usize) -> bool {
 /// Half of the greatest number of bytes of a plan's text: one of fewer bytes migrates to one that is not too long.
 const HALF: usize = 524_288;
 
-/// Checks that a text is told to be a plan, of either version, and so that it migrates as it has to.
+/// Checks that a text is told to be a plan of its version, and so that it migrates as it has to.
 fn is_told(rt: &(impl AllocGlobal + Abort), text: &str) -> Result<(), Fail> {
     let answer = told(rt.alloc(), text)?;
     let is_long = text.len() > HALF && answer.as_str() == "plan TooLong block 0 call 0";
-    assert!(rt;
-        is_long || answer.as_str() == "plan" || answer.as_str() == "plan 2",
-        "{answer}"
-    );
+    let wanted = if text.contains("version = 2") {
+        "plan 2"
+    } else {
+        "plan"
+    };
+    assert!(rt; is_long || answer.as_str() == wanted, "{answer}");
     Ok(())
 }
 
@@ -195,18 +184,18 @@ fn write_block(out: &mut String, block: &Block<Global>) -> Result<(), Fail> {
 }
 
 /// Checks the blocks and the calls of the plan of a text, a line for each.
-fn reads(rt: &(impl AllocGlobal + Abort), text: &str, lines: &str) -> Result<(), Fail> {
+fn reads(rt: &(impl AllocGlobal + Abort), name: &str, text: &str, lines: &str) -> Result<(), Fail> {
     let plan = read(rt.alloc(), text.as_bytes())?;
     let mut out = String::new(rt.alloc());
     for block in plan.blocks() {
         write_block(&mut out, block)?;
     }
-    assert!(rt; out.as_str() == lines, "{text}");
+    assert!(rt; out.as_str() == lines, "{name}: {out}");
     is_told(rt, text)
 }
 
 /// Each fault by an example.
-const EXAMPLES: &str = r#"Toml block 0 call 0 | version =
+const ANSWERS_EACH_EXAMPLE: &str = r#"Toml block 0 call 0 | version =
 Version block 0 call 0 | version = "1"
 UnknownKey block 0 call 0 | version = 1 / x = 1
 WrongType block 0 call 0 | version = 1 / block = 1
@@ -225,38 +214,96 @@ TooLarge block 1 call 1 | version = 1 / [[block]] / call = [{ op = "schedule", n
 Ambiguous block 2 call 1 | version = 1 / [[block]] / at = 100 / times = 3 / every = 10 / call = [{ op = "schedule", name = "a", delay = 50 }, { op = "cancel", name = "a", at = 4 }] / [[block]] / at = 200 / call = [{ op = "cancel", name = "a" }]
 TooMany block 1 call 0 | version = 1 / [[block]] / times = 65536 / every = 0 / [[block.call]] / op = "ask" / [[block.call]] / op = "ask""#;
 
+/// Texts by what is told of them: what stands before each text of a table, and the table.
+const TABLES: [(&str, &str); 27] = [
+    ("", ANSWERS_EACH_EXAMPLE),
+    (CALL, calls::REFUSES_AT_A_CALL),
+    (CALL, calls::REFUSES_A_POLICY_A_SHUTDOWN_AND_A_QUESTION),
+    (CALL, calls::TELLS_THE_FIRST_FAULT_OF_A_CALL),
+    (HEADER, calls::TELLS_THE_FIRST_FAULT_OF_A_LATER_CALL),
+    (
+        controls::NAMED,
+        controls::TAKES_NO_NAME_OF_CONTROL_CHARACTERS,
+    ),
+    ("", documents::REFUSES_AT_THE_TEXT),
+    (
+        "",
+        documents::TAKES_LINE_ENDS_AND_A_BYTE_ORDER_MARK_WHERE_THEY_MAY_STAND,
+    ),
+    ("version = 1\n", documents::REFUSES_WHAT_STANDS_TWICE),
+    (HEADER, documents::TAKES_WHAT_TOML_HAS_SINCE_VERSION_1_1),
+    (HEADER, headers::REFUSES_AT_THE_HEADER),
+    (HEADER, headers::TELLS_THE_FIRST_FAULT_OF_A_HEADER),
+    (LATE_BLOCK, headers::REFUSES_A_HEADER_AFTER_ANOTHER_BLOCK),
+    (HEADER, names::REFUSES_NAMES_OVER_ALL_BLOCKS),
+    (HEADER, numbers::TAKES_INTEGERS_TO_THEIR_BOUNDS),
+    (HEADER, numbers::REFUSES_WORDS_THAT_ARE_NO_VALUES),
+    (HEADER, numbers::TAKES_NO_OTHER_VALUE_FOR_AN_INTEGER),
+    (
+        HEADER,
+        repeated::REFUSES_A_POLICY_A_SHUTDOWN_AND_A_QUESTION_IN_A_REPEATED_BLOCK,
+    ),
+    (HEADER, repeated::REFUSES_CALLS_OF_A_REPEATED_BLOCK),
+    (HEADER, repeated::TAKES_65536_CALLS_OF_A_PLAN),
+    (HEADER, times::REFUSES_MORE_THAN_THE_LONGEST_OF_EACH_UNIT),
+    (CALL_2, times::A_DELAY_IS_53375_DAYS_AT_MOST),
+    ("", tops::TAKES_VERSIONS_1_AND_2_AND_REFUSES_AT_THE_TOP),
+    (
+        HEADER_2,
+        unit_faults::TELLS_THE_FIRST_FAULT_OF_A_HEADER_WITH_UNITS,
+    ),
+    (
+        CALL_2,
+        unit_faults::TELLS_THE_FIRST_FAULT_OF_A_CALL_WITH_UNITS,
+    ),
+    (HEADER_2, unit_faults::ORDERS_TIMES_OF_DIFFERENT_UNITS),
+    (HEADER, units::A_HEADER_OF_VERSION_1_HAS_ONE_UNIT),
+];
+
 #[test]
-fn answers_each_example(rt: HostRuntime) -> Result<(), Fail> {
-    tells_each(&rt, "", EXAMPLES)
+fn each_text_is_told(rt: HostRuntime) -> Result<(), Fail> {
+    for (front, table) in TABLES {
+        tells_each(&rt, front, table)?;
+    }
+    Ok(())
 }
+
+/// The kinds of faults, in the order of `KIND_NAMES`.
+const KINDS: [PlanFaultKind; 17] = [
+    PlanFaultKind::TooLong,
+    PlanFaultKind::Toml,
+    PlanFaultKind::Version,
+    PlanFaultKind::UnknownKey,
+    PlanFaultKind::Missing,
+    PlanFaultKind::WrongType,
+    PlanFaultKind::BadUnit,
+    PlanFaultKind::BadTimes,
+    PlanFaultKind::Negative,
+    PlanFaultKind::BadName,
+    PlanFaultKind::DuplicateName,
+    PlanFaultKind::UnknownName,
+    PlanFaultKind::Ambiguous,
+    PlanFaultKind::OutOfOrder,
+    PlanFaultKind::TooLarge,
+    PlanFaultKind::TooMany,
+    PlanFaultKind::Memory,
+];
+
+const KIND_NAMES: &str =
+    "TooLong Toml Version UnknownKey Missing WrongType BadUnit BadTimes Negative \
+     BadName DuplicateName UnknownName Ambiguous OutOfOrder TooLarge TooMany Memory";
 
 #[test]
 fn spells_each_fault(rt: HostRuntime) -> Result<(), Fail> {
-    for (kind, line) in [
-        (PlanFaultKind::TooLong, "TooLong block 1 call 2"),
-        (PlanFaultKind::Toml, "Toml block 1 call 2"),
-        (PlanFaultKind::Version, "Version block 1 call 2"),
-        (PlanFaultKind::UnknownKey, "UnknownKey block 1 call 2"),
-        (PlanFaultKind::Missing, "Missing block 1 call 2"),
-        (PlanFaultKind::WrongType, "WrongType block 1 call 2"),
-        (PlanFaultKind::BadUnit, "BadUnit block 1 call 2"),
-        (PlanFaultKind::BadTimes, "BadTimes block 1 call 2"),
-        (PlanFaultKind::Negative, "Negative block 1 call 2"),
-        (PlanFaultKind::BadName, "BadName block 1 call 2"),
-        (PlanFaultKind::DuplicateName, "DuplicateName block 1 call 2"),
-        (PlanFaultKind::UnknownName, "UnknownName block 1 call 2"),
-        (PlanFaultKind::Ambiguous, "Ambiguous block 1 call 2"),
-        (PlanFaultKind::OutOfOrder, "OutOfOrder block 1 call 2"),
-        (PlanFaultKind::TooLarge, "TooLarge block 1 call 2"),
-        (PlanFaultKind::TooMany, "TooMany block 1 call 2"),
-        (PlanFaultKind::Memory, "Memory block 1 call 2"),
-    ] {
+    assert_eq!(rt; KINDS.len(), KIND_NAMES.split(' ').count());
+    for (kind, name) in KINDS.iter().zip(KIND_NAMES.split(' ')) {
         let fault = PlanFault {
-            kind,
+            kind: *kind,
             block: 1,
             call: 2,
         };
-        assert!(rt; spelled(rt.alloc(), &fault)?.as_str() == line);
+        let line = format!(in rt.alloc(); "{name} block 1 call 2")?;
+        assert!(rt; text_of_fault(rt.alloc(), &fault)?.as_str() == line.as_str());
     }
     Ok(())
 }

@@ -3,6 +3,7 @@ pub mod Plainly
 pub mod Traces
 pub mod Taking
 pub mod Texts
+pub mod Keeping
 pub mod First
 pub mod TextLaws
 pub mod Fitting

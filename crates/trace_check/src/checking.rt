@@ -1,11 +1,12 @@
 //! A check of a text, line by line.
-ghost use Rattle.std.specs.Prelude.{◌≡◌, ℕ, ◌+◌, ◌<◌, ◌≤◌, ◌∷◌, ◌↔◌, List, [], false, drop, length, IsTrue, IfOk, IsErrOf, vec_capacity};
+ghost use Rattle.std.specs.Prelude.{◌≡◌, ℕ, ◌+◌, ◌<◌, ◌≤◌, ◌∷◌, ◌++◌, ◌↔◌, List, [], false, drop, length, IsTrue, IfOk, IfErr, OnOk, IsErrOf, vec_capacity};
 ghost use Rattle.plan_compile.specs.PlanCalls.{calls_of_plan};
 ghost use Rattle.executor_core.specs.Counts.{IsWorkerCount};
 ghost use Rattle.executor_core.specs.CoreView.{workers_of, IsOpening};
 ghost use Rattle.executor_core.specs.declared.types.Line.{Line as Said};
 ghost use Rattle.trace_check.specs.Going.{Goes};
 ghost use Rattle.trace_check.specs.Findings.{Finds};
+ghost use Rattle.trace_check.specs.Lines.{AreRead};
 ghost use Rattle.trace_check.specs.Standing.{most_bytes};
 ghost use Rattle.trace_check.specs.own.Standing.{TellBusy, IsStanding, IsReady, most_events};
 
@@ -37,6 +38,18 @@ pub struct Checker<A: Allocator> {
 /// The text has at most [`MOST_BYTES`] bytes. It conforms exactly where it is a whole trace of the plan, and else breaks at a
 /// line, counted from 1: the first with which it begins no trace, or the one after its last where a line that ends a task is wanting. The errors are [`CheckError::Workers`] exactly where the number of
 /// workers is not 1 to 64, and else [`CheckError::Memory`]. Nothing is kept after an error.
+///
+/// ```rust
+/// let plan = read_plan(alloc, b"version = 2\n")?; // of no calls
+/// let finding = check(alloc, &plan, 1, b"5 clock\n5 start 0 idle\n")?;
+/// assert_eq!(rt; finding, Finding::Conforms);
+/// let finding = check(alloc, &plan, 1, b"5 clock\n4 start 0 idle\n")?;
+/// assert_eq!(rt; finding, Finding::Breaks(2)); // moments do not fall
+/// let finding = check(alloc, &plan, 1, b"5 clock")?;
+/// assert_eq!(rt; finding, Finding::Breaks(1)); // its newline is wanting
+/// let error = check(alloc, &plan, 65, b"5 clock\n").err();
+/// assert_eq!(rt; error, Some(CheckError::Workers)); // there are 1 to 64
+/// ```
 pub fn check<A: Allocator + Copy, B: Allocator>(
     alloc: A,
     plan: &Plan<B>,
@@ -48,7 +61,26 @@ pub fn check<A: Allocator + Copy, B: Allocator>(
     ensures finds { IfOk result (λ f. Finds (calls_of_plan plan.now) workers text.now f) }
 {
     let mut checker = Checker::new(alloc, plan, workers)?;
-    Ok(checker.run(text))
+    checker.run(text, false, &mut Vec::new(alloc))
+}
+
+/// What [`check`] finds of a text, under the same conditions and with the same errors, and the lines that it read, in their order:
+/// all of them where the text conforms, and else those before the line at which it breaks.
+pub fn check_and_read<A: Allocator + Copy, B: Allocator>(
+    alloc: A,
+    plan: &Plan<B>,
+    workers: u8,
+    text: &[u8],
+) -> Result<(Finding, Vec<Line, A>), CheckError>
+    requires { length text.now ≤ most_bytes }
+    ensures workers { IsErrOf result CheckError.Workers ↔ ¬ IsWorkerCount workers }
+    ensures finds { IfOk result (λ r. Finds (calls_of_plan plan.now) workers text.now r.0) }
+    ensures lines { IfOk result (λ r. AreRead text.now r.0 r.1.items) }
+{
+    let mut checker = Checker::new(alloc, plan, workers)?;
+    let mut lines = Vec::new(alloc);
+    let finding = checker.run(text, true, &mut lines)?;
+    Ok((finding, lines))
 }
 
 impl<A: Allocator> Checker<A> {
@@ -73,33 +105,45 @@ impl<A: Allocator> Checker<A> {
         })
     }
 
-    /// Takes the lines of a text, as far as they go.
-    fn run(&mut self, text: &[u8]) -> Finding
+    /// Takes the lines of a text, as far as they go. Where `keeps` says so, each is put behind the ones before it. It is one loop for
+    /// both, so that the reading of a line stands in it once, and in no call.
+    #[inline(never)]
+    fn run(
+        &mut self,
+        text: &[u8],
+        keeps: bool,
+        lines: &mut Vec<Line, A>,
+    ) -> Result<Finding, CheckError>
         requires size { length text.now ≤ most_bytes }
         requires limit { self.old.core.limit ≡ most_events }
         requires taken { self.old.core.taken ≡ 0 }
         requires ready { IsReady self.old.core self.old.busy.workers (vec_capacity self.old.out) }
         requires stands { IsStanding self.old.core (drop self.old.met self.old.out.items)
             self.old.busy.flags [] }
-        ensures { Finds self.old.core.calls (workers_of self.old.core) text.now result }
+        requires none { lines.old.items ≡ [] }
+        ensures finds { IfOk result
+            (λ f. Finds self.old.core.calls (workers_of self.old.core) text.now f) }
+        ensures lines { IsTrue keeps → IfOk result (λ f. AreRead text.now f lines.new.items) }
+        ensures memory { IfErr result (λ e. e ≡ CheckError.Memory) }
     {
         let mut rest = text;
         let mut count = 0u64;
         while !rest.is_empty() {
             let Some(found) = split_line(rest) else {
-                return Finding::Breaks(count + 1);
+                return Ok(Finding::Breaks(count + 1));
             };
             let (line, behind) = found;
             if !self.take(&line) {
-                return Finding::Breaks(count + 1);
+                return Ok(Finding::Breaks(count + 1));
             }
+            keep(keeps, lines, line)?;
             rest = behind;
             count += 1;
         }
         if self.met < self.out.len() {
-            return Finding::Breaks(count + 1);
+            return Ok(Finding::Breaks(count + 1));
         }
-        Finding::Conforms
+        Ok(Finding::Conforms)
     }
 
     /// Takes the next line, where it goes.
@@ -163,6 +207,19 @@ impl<A: Allocator> Checker<A> {
         self.busy.note(line.said());
         true
     }
+}
+
+/// Puts a line behind the ones before it, where `keeps` says so.
+#[inline(always)]
+fn keep<A: Allocator>(keeps: bool, lines: &mut Vec<Line, A>, line: Line) -> Result<(), CheckError>
+    ensures kept { IsTrue keeps
+        → OnOk result (lines.new.items ≡ lines.old.items ++ line ∷ []) }
+    ensures memory { IfErr result (λ e. e ≡ CheckError.Memory) }
+{
+    if keeps {
+        lines.push(line).map_err(|_| CheckError::Memory)?;
+    }
+    Ok(())
 }
 
 /// Whether two lines are equal.

@@ -3,13 +3,17 @@
 //! # Usage
 //!
 //! ```rust
-//! let plan = read_plan(alloc, plan_text)?;
-//! check(alloc, &plan, 1, b"0 submit 0 schedule due 5\n0 clock\n")?; // Finding::Conforms
-//! check(alloc, &plan, 1, b"0 submit 0 schedule due 6\n0 clock\n")?; // Finding::Breaks(1)
-//! check(alloc, &plan, 1, b"0 submit 0 schedule due 5\n0 clock")?;    // Finding::Breaks(2)
+//! // One task, which is due at once.
+//! let text = "version = 2\n[[block]]\ncall = [ { op = \"execute\", name = \"a\" } ]\n";
+//! let plan = read_plan(alloc, text.as_bytes())?;
+//! let finding = check(alloc, &plan, 1, b"0 submit 0 schedule due 0\n0 clock\n")?;
+//! assert_eq!(rt; finding, Finding::Conforms);
+//! let finding = check(alloc, &plan, 1, b"0 submit 0 schedule due 6\n0 clock\n")?;
+//! assert_eq!(rt; finding, Finding::Breaks(1));
 //! ```
 //!
-//! The trace may come from any program. It is held against the plan alone: no events are given.
+//! The trace may come from any program. It is held against the plan alone: no events are given. [`check_and_read`] also hands on
+//! the lines that it read, for a caller that goes on with them.
 //!
 //! # Behaviour
 //!
@@ -50,9 +54,10 @@
 //!
 //! # Memory and cost
 //!
-//! All memory is taken before the first line: the code of the plan, a core for it, and room for as many lines as a core may ask
+//! All memory of a [`check`] is taken before the first line: the code of the plan, a core for it, and room for as many lines as a core may ask
 //! for, which are at most 131,073. Each line is read once and answered once, for what the core's answer costs
 //! (see [`Core`](executor_core::Core)); one of the two errors on a worker's state looks at the workers, at most 64, as well.
+//! [`check_and_read`] takes memory for lines as they come, at least 32 bytes each.
 #![tactic(auto)]
 
 mod busy;
@@ -63,7 +68,7 @@ mod laws;
 #[cfg(test)]
 mod tests;
 
-pub use checking::{MOST_BYTES, check};
+pub use checking::{MOST_BYTES, check, check_and_read};
 pub use error::CheckError;
 pub use finding::Finding;
 pub use laws::{

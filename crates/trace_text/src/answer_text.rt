@@ -10,15 +10,27 @@ ghost use Rattle.executor_core.specs.declared.Answer.TheVariants as a;
 ghost use Rattle.executor_core.specs.declared.Outcome.TheVariants as o;
 
 use crate::put::{put_number, put_text};
-use crate::words::{CONTINUE, EXECUTE, REMOVE};
+use crate::words::{CONTINUE, EXECUTE, FIXED_DUE, RATE_DUE, REMOVE, SCHEDULE_DUE};
 use executor_core::{CancelEffect, EventError, Kind, Outcome, Refusal};
 use sched_time::Which;
 
 /// How many bytes there have to be for an answer.
 pub const ANSWER_ROOM: usize = 108;
 
-/// Puts a task that was accepted.
+/// Puts a task that was accepted: by a call, which keeps small what one line in a while is put by.
+#[inline(never)]
 pub fn put_submit(buffer: &mut [u8], at: usize, task: u32, kind: Kind, due: u64) -> usize
+    requires { at + ANSWER_ROOM ≤ length buffer.old }
+    ensures end { result ≤ at + ANSWER_ROOM }
+    ensures put { Puts (take at buffer.old) (take result buffer.new)
+        (answer_text (a.Submit task kind due)) }
+{
+    put_submit_here(buffer, at, task, kind, due)
+}
+
+/// Puts a task that was accepted, where it is called: for a loop over many lines.
+#[inline(always)]
+pub fn put_submit_here(buffer: &mut [u8], at: usize, task: u32, kind: Kind, due: u64) -> usize
     requires { at + ANSWER_ROOM ≤ length buffer.old }
     ensures end { result ≤ at + ANSWER_ROOM }
     ensures put { Puts (take at buffer.old) (take result buffer.new)
@@ -255,10 +267,11 @@ fn put_kind(buffer: &mut [u8], at: usize, kind: Kind) -> usize
     ensures put { Puts (take at buffer.old) (take result buffer.new)
         (codes " " ++ (kind_text kind ++ codes " due ")) }
 {
+    let at = put_text(buffer, at, *b" ");
     match kind {
-        Kind::Schedule => put_text(buffer, at, *b" schedule due "),
-        Kind::Rate => put_text(buffer, at, *b" rate due "),
-        Kind::Fixed => put_text(buffer, at, *b" fixed due "),
+        Kind::Schedule => put_text(buffer, at, SCHEDULE_DUE),
+        Kind::Rate => put_text(buffer, at, RATE_DUE),
+        Kind::Fixed => put_text(buffer, at, FIXED_DUE),
     }
 }
 

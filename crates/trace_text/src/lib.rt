@@ -11,23 +11,24 @@
 //!   buffer that keeps its bytes [`put_line`] alone is the faster of the two, as none is cleared before it is written, and in a
 //!   loop over many lines [`put_line_here`], which is more code. Their [`Stamp`] keeps the digits of the last line's moment, so
 //!   that lines of one moment, one behind the other, copy them.
+//!   [`LineText`] is the same text for `{}`, and [`kind_word`] a word of it.
 //! - [`strip_word`], [`number_before`], [`code_before`], [`split_which`] and [`split_truth`] read one word or number at the front
 //!   of some bytes, and what follows it: lines of other forms are read with them.
 //!
 //! ```rust
-//! read_event(b"finish 0 ok 7\n");    // Some(Event::Finish(0, Ending::Value(7)))
-//! front_event(b"clock 5\nstart");    // Front::Event(Event::Clock(5), 8): the first 8 bytes
-//! front_event(b"start");             // Front::Part
-//! front_event(b"clock 05\n");        // Front::Refused
+//! let finish = Event::Finish(0, Ending::Value(7));
+//! assert_eq!(rt; read_event(b"finish 0 ok 7\n"), Some(finish));
+//! let clock = Front::Event(Event::Clock(5), 8); // the first 8 bytes
+//! assert_eq!(rt; front_event(b"clock 5\nstart"), clock);
+//! assert_eq!(rt; front_event(b"start"), Front::Part);
+//! assert_eq!(rt; front_event(b"clock 05\n"), Front::Refused);
 //!
-//! read_line(b"5 end 3\n");           // Some(Line::new(5, Message::End(3)))
-//! read_line(b"5 end 03\n");          // None
-//! let trace = b"5 clock\n5 start 0 idle\n";
-//! split_line(trace);                 // Some((the line of the clock, b"5 start 0 idle\n"))
-//!
-//! let mut text = Vec::with_capacity(alloc, 10 * LINE_ROOM)?;
-//! write_line(&mut text, &Line::new(5, Message::Answer(Answer::Clock)))?;
-//! text.as_slice();                   // b"5 clock\n"
+//! let line = Line::new(5, Message::Answer(Answer::Clock));
+//! assert_eq!(rt; read_line(b"5 clock\n"), Some(line));
+//! assert_eq!(rt; read_line(b"05 clock\n"), None);
+//! let mut text = Vec::new(alloc);
+//! write_line(&mut text, &line)?;
+//! assert_eq!(rt; text.as_slice(), b"5 clock\n".as_slice());
 //! ```
 //!
 //! # Behaviour
@@ -84,11 +85,12 @@
 //! only where there is less room than [`LINE_ROOM`] bytes; a capacity never falls. The longest event's line has 35 bytes, the
 //! longest line of a trace 104.
 //!
-//! The tests of a module stand beside it, as `src/line/tests.rt`.
+//! The tests of a module stand beside it, as `src/line/tests.rt`, and the lines above in `src/tests.rt`.
 #![tactic(auto)]
 
 mod answer;
 mod answer_text;
+mod display;
 mod event;
 mod front;
 mod laws;
@@ -99,9 +101,12 @@ mod message_text;
 mod put;
 mod scan;
 mod stamp;
+#[cfg(test)]
+mod tests;
 mod text_error;
 mod words;
 
+pub use display::{LineText, kind_word};
 pub use event::{read_event, split_event};
 pub use front::{Front, MOST_EVENT_BYTES, front_event, is_part};
 pub use laws::{

@@ -24,8 +24,9 @@ pub fn read_line(line: &[u8]) -> Option<Line>
 }
 
 /// The line of a trace whose text stands at the front of some bytes, and what follows its newline. `None` exactly when no
-/// line's text stands there; the limits of its numbers are those of [`read_line`].
-#[inline]
+/// line's text stands there; the limits of its numbers are those of [`read_line`]. It is put where it is called, so that a loop over
+/// many lines takes fewer steps for each.
+#[inline(always)]
 pub fn split_line(bytes: &[u8]) -> Option<(Line, &[u8])>
     ensures { MatchOption result (IsUnread line_text FitsLine bytes.now)
         (λ r. IsRead line_text FitsLine bytes.now r.0 r.1.now) }

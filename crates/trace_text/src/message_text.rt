@@ -8,7 +8,7 @@ ghost use Rattle.executor_core.specs.Said.{message_of};
 
 use crate::answer_text::{
     ANSWER_ROOM, put_again, put_ask, put_done, put_effect, put_error, put_finish, put_idle,
-    put_policy, put_refuse, put_start, put_start_here, put_submit,
+    put_policy, put_refuse, put_start, put_start_here, put_submit, put_submit_here,
 };
 use crate::put::{put_number, put_text};
 use executor_core::{Outcome, Said};
@@ -58,7 +58,8 @@ pub fn put_said(buffer: &mut [u8], at: usize, said: &Said) -> usize
     }
 }
 
-/// As [`put_said`], with a start put where it is called: for a loop over many lines.
+/// As [`put_said`], with a submission, a start and an end put where it is called: for a loop over many lines, which are mostly
+/// these.
 #[inline(always)]
 pub fn put_said_here(buffer: &mut [u8], at: usize, said: &Said) -> usize
     requires { at + ANSWER_ROOM ≤ length buffer.old }
@@ -67,12 +68,14 @@ pub fn put_said_here(buffer: &mut [u8], at: usize, said: &Said) -> usize
         (message_text (message_of said.now)) }
 {
     match *said {
+        Said::Submit { kind, task, due } => put_submit_here(buffer, at, task, kind, due),
         Said::Start {
             worker,
             task,
             run,
             due,
         } => put_start_here(buffer, at, worker, task, run, due),
+        Said::End(task) => put_end(buffer, at, task),
         _ => put_said(buffer, at, said),
     }
 }
@@ -115,8 +118,8 @@ fn put_rare(buffer: &mut [u8], at: usize, said: &Said) -> usize
     }
 }
 
-/// Puts a task that ends.
-#[cold]
+/// Puts a task that ends: of what few lines say the one that many lines in a row may say, so it is put where it is called.
+#[inline(always)]
 fn put_end(buffer: &mut [u8], at: usize, task: u32) -> usize
     requires { at + ANSWER_ROOM ≤ length buffer.old }
     ensures end { result ≤ at + ANSWER_ROOM }

@@ -9,6 +9,16 @@ use crate::scan::{code_before, number_before, strip, strip_word};
 use executor_core::{CancelEffect, EventError, Kind, Outcome, Refusal, Said};
 use sched_time::Which;
 
+/// The word of [`Kind::Schedule`], to the due moment that stands behind it in a line.
+pub const SCHEDULE_DUE: [u8; 13] = *b"schedule due ";
+/// The word of [`Kind::Rate`], to the due moment.
+pub const RATE_DUE: [u8; 9] = *b"rate due ";
+/// The word of [`Kind::Fixed`], to the due moment.
+pub const FIXED_DUE: [u8; 10] = *b"fixed due ";
+
+/// How many bytes stand in these between the word and the due moment.
+pub const DUE: usize = 5;
+
 /// The word of [`Which::Continue`].
 pub const CONTINUE: [u8; 8] = *b"continue";
 /// The word of [`Which::Execute`].
@@ -55,13 +65,13 @@ pub fn split_kind(bytes: &[u8]) -> Option<(Kind, &[u8])>
     ensures { MatchOption result (IsUnread (text_then kind_text (codes " due ")) Any bytes.now)
         (λ r. IsRead (text_then kind_text (codes " due ")) Any bytes.now r.0 r.1.now) }
 {
-    if let Some(rest) = strip_word(bytes, *b"schedule due ") {
+    if let Some(rest) = strip_word(bytes, SCHEDULE_DUE) {
         return Some((Kind::Schedule, rest));
     }
-    if let Some(rest) = strip_word(bytes, *b"rate due ") {
+    if let Some(rest) = strip_word(bytes, RATE_DUE) {
         return Some((Kind::Rate, rest));
     }
-    if let Some(rest) = strip_word(bytes, *b"fixed due ") {
+    if let Some(rest) = strip_word(bytes, FIXED_DUE) {
         return Some((Kind::Fixed, rest));
     }
     None

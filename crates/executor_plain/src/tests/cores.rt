@@ -7,6 +7,7 @@ mod shapes;
 mod singles;
 mod sizes;
 mod sweeps;
+mod usage;
 mod words;
 
 use executor_core::{Core, CoreError, Event, Happening, Line};
@@ -122,18 +123,6 @@ fn text_of_lines(alloc: Global, lines: &[Line]) -> Result<String, Fail> {
         writeln!(text, "{} {:?}", line.moment(), line.message())?;
     }
     Ok(text)
-}
-
-/// Checks what the lines say with which a core of one worker answers these events, which it takes.
-fn says_after(
-    rt: &(impl AllocGlobal + Abort),
-    instrs: &[Instr],
-    events: &[Event],
-    said: &str,
-) -> Result<(), Fail> {
-    let lines = lines_after(rt, instrs, 1, events)?;
-    assert_eq!(rt; text_of_lines(rt.alloc(), &lines)?.as_str(), said);
-    Ok(())
 }
 
 #[test]

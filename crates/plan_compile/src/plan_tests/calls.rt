@@ -2,7 +2,7 @@
 use super::*;
 
 /// Faults of a call.
-const CALLS: &str = r#"WrongType block 1 call 1 | op = 1
+pub const REFUSES_AT_A_CALL: &str = r#"WrongType block 1 call 1 | op = 1
 WrongType block 1 call 1 | op = "rates"
 Missing block 1 call 1 | op = "schedule"
 Missing block 1 call 1 | op = "schedule" / name = "a"
@@ -50,13 +50,9 @@ TooLarge block 1 call 1 | op = "rate" / name = "a" / first = 1 / period = 461168
 TooLarge block 1 call 1 | op = "fixed" / name = "a" / first = 4611686018427387905 / delay = 1
 TooLarge block 1 call 1 | op = "fixed" / name = "a" / first = 1 / delay = 9223372036854775807"#;
 
-#[test]
-fn refuses_at_a_call(rt: HostRuntime) -> Result<(), Fail> {
-    tells_each(&rt, CALL, CALLS)
-}
-
 /// Faults of a policy, of both kinds of shutdown and of a question.
-const OTHER_CALLS: &str = r#"WrongType block 1 call 1 | op = "Policy"
+pub const REFUSES_A_POLICY_A_SHUTDOWN_AND_A_QUESTION: &str =
+    r#"WrongType block 1 call 1 | op = "Policy"
 WrongType block 1 call 1 | op = "invokeAll"
 WrongType block 1 call 1 | op = "shutdownNow"
 WrongType block 1 call 1 | op = "shutdown_no"
@@ -91,13 +87,8 @@ plan | op = "shutdown_now" / at = 4611686018427387904
 plan | op = "shutdown_now"
 TooLarge block 1 call 1 | op = "ask" / at = 9223372036854775807"#;
 
-#[test]
-fn refuses_a_policy_a_shutdown_and_a_question(rt: HostRuntime) -> Result<(), Fail> {
-    tells_each(&rt, CALL, OTHER_CALLS)
-}
-
 /// Calls with two faults, each in both orders.
-const CALLS_OF_TWO_FAULTS: &str = r#"Missing block 1 call 1 | x = 1 / name = 1
+pub const TELLS_THE_FIRST_FAULT_OF_A_CALL: &str = r#"Missing block 1 call 1 | x = 1 / name = 1
 Missing block 1 call 1 | name = 1 / x = 1
 WrongType block 1 call 1 | op = "run" / x = 1
 WrongType block 1 call 1 | x = 1 / op = "run"
@@ -130,13 +121,8 @@ UnknownKey block 1 call 1 | at = "1" / x = 1 / op = "shutdown_now"
 WrongType block 1 call 1 | op = "ask" / at = "-1"
 WrongType block 1 call 1 | at = "-1" / op = "ask""#;
 
-#[test]
-fn tells_the_first_fault_of_a_call(rt: HostRuntime) -> Result<(), Fail> {
-    tells_each(&rt, CALL, CALLS_OF_TWO_FAULTS)
-}
-
 /// Faults of a second call.
-const LATER_CALLS: &str =
+pub const TELLS_THE_FIRST_FAULT_OF_A_LATER_CALL: &str =
     r#"DuplicateName block 1 call 2 | call = [{ op = "schedule", name = "a", delay = 1, at = 2 }, { op = "schedule", name = "a", delay = 1, at = -1 }]
 DuplicateName block 1 call 2 | call = [{ op = "schedule", name = "a", delay = 1, at = 2 }, { at = -1, delay = 1, name = "a", op = "schedule" }]
 DuplicateName block 1 call 2 | call = [{ op = "schedule", name = "a", delay = 1, at = 2 }, { op = "execute", name = "a", at = 2 }]
@@ -152,8 +138,3 @@ OutOfOrder block 1 call 2 | call = [{ op = "schedule", name = "a", delay = 1, at
 OutOfOrder block 1 call 2 | call = [{ op = "schedule", name = "a", delay = 1, at = 2 }, { op = "cancel", name = "a" }]
 TooLarge block 1 call 2 | call = [{ op = "schedule", name = "a", delay = 1, at = 2 }, { op = "schedule", name = "b", delay = 4611686018427387905, at = 1 }]
 TooLarge block 1 call 2 | call = [{ op = "schedule", name = "a", delay = 1, at = 2 }, { op = "rate", name = "b", first = 0, period = 4611686018427387905, at = 1 }]"#;
-
-#[test]
-fn tells_the_first_fault_of_a_later_call(rt: HostRuntime) -> Result<(), Fail> {
-    tells_each(&rt, HEADER, LATER_CALLS)
-}

@@ -2,80 +2,46 @@
 //! a line may end. Each other one is refused.
 use super::*;
 
-/// Where a character stands: what is before it and behind it, which control characters may stand there, and what is told of the
-/// text then.
-type Spot<'a> = (&'a str, &'a str, &'a [u8], &'a str);
-
-/// Spots in comments, between words, in each form of string, and in words.
-const SPOTS: [Spot<'_>; 14] = [
-    ("version = 1 #", "", b"\t\n", "plan"),
-    ("version = 1 #", "\n", b"\t\n\r", "plan"),
-    ("", "version = 1", b"\t\n", "plan"),
-    ("version =", "1", b"\t", "plan"),
-    ("version = 1", "", b"\t\n", "plan"),
-    ("version = 1", "\n[[block]]", b"\t\n\r", "plan"),
-    (
-        "version = 1\nx = [",
-        "]",
-        b"\t\n",
-        "UnknownKey block 0 call 0",
-    ),
-    (
-        "version = 1\nx = {",
-        "}",
-        b"\t\n",
-        "UnknownKey block 0 call 0",
-    ),
-    (
-        "version = 1\nx = \"",
-        "\"",
-        b"\t",
-        "UnknownKey block 0 call 0",
-    ),
-    (
-        "version = 1\nx = '",
-        "'",
-        b"\t",
-        "UnknownKey block 0 call 0",
-    ),
-    (
-        "version = 1\nx = \"\"\"",
-        "\"\"\"",
-        b"\t\n",
-        "UnknownKey block 0 call 0",
-    ),
-    (
-        "version = 1\nx = '''a",
-        "\n'''",
-        b"\t\n\r",
-        "UnknownKey block 0 call 0",
-    ),
-    ("ver", "sion = 1", b"", "plan"),
-    ("version = 1\n[[blo", "ck]]", b"", "plan"),
-];
+/// Spots in comments, between words, in each form of string, and in words: what is told of the text where a control character may
+/// stand there, which may, and the text before it and behind it.
+const SPOTS: &str = r#"plan¦␉⏎¦version = 1 #¦
+plan¦␉⏎␍¦version = 1 #¦⏎
+plan¦␉⏎¦¦version = 1
+plan¦␉¦version =¦1
+plan¦␉⏎¦version = 1¦
+plan¦␉⏎␍¦version = 1¦⏎[[block]]
+UnknownKey block 0 call 0¦␉⏎¦version = 1⏎x = [¦]
+UnknownKey block 0 call 0¦␉⏎¦version = 1⏎x = {¦}
+UnknownKey block 0 call 0¦␉¦version = 1⏎x = "¦"
+UnknownKey block 0 call 0¦␉¦version = 1⏎x = '¦'
+UnknownKey block 0 call 0¦␉⏎¦version = 1⏎x = """¦"""
+UnknownKey block 0 call 0¦␉⏎␍¦version = 1⏎x = '''a¦⏎'''
+plan¦¦ver¦sion = 1
+plan¦¦version = 1⏎[[blo¦ck]]"#;
 
 /// Checks what is told of the text that has a control character at a spot.
-fn tells_at(rt: &(impl AllocGlobal + Abort), spot: Spot<'_>, code: u8) -> Result<(), Fail> {
-    let (front, rest, allowed, fault) = spot;
-    let mut text = String::from_str(rt.alloc(), front)?;
+fn tells_at(rt: &(impl AllocGlobal + Abort), spot: &str, code: u8) -> Result<(), Fail> {
+    let columns: Vec<&str> = spot.split("¦").collect(rt.alloc())?;
+    let [fault, allowed, front, rest] = columns.as_slice() else {
+        return Err("a row is short".into());
+    };
+    let mut text = String::from_str(rt.alloc(), spelled(rt.alloc(), front)?.as_str())?;
     text.push(char::from(code))?;
-    text.push_str(rest)?;
+    text.push_str(spelled(rt.alloc(), rest)?.as_str())?;
     let answer = told(rt.alloc(), text.as_str())?;
-    let expected = if allowed.contains(&code) {
-        fault
+    let allowed = spelled(rt.alloc(), allowed)?;
+    let expected = if allowed.as_bytes().contains(&code) {
+        *fault
     } else {
         "Toml block 0 call 0"
     };
-    assert!(rt;
-        answer.as_str() == expected,
-        "{code} behind {front}: {answer}"
-    );
+    assert!(rt; answer.as_str() == expected, "{code} at {spot}: {answer}");
     Ok(())
 }
 
 #[test]
 fn takes_control_characters_where_they_may_stand(rt: HostRuntime) -> Result<(), Fail> {
-    for spot in SPOTS {
+    for spot in SPOTS.lines() {
         for code in 0..32u8 {
             tells_at(&rt, spot, code)?;
         }
@@ -84,8 +50,11 @@ fn takes_control_characters_where_they_may_stand(rt: HostRuntime) -> Result<(), 
     Ok(())
 }
 
+/// What stands before the escapes.
+pub const NAMED: &str = "version = 1\n[[block]]\n[[block.call]]\nop = \"cancel\"\n";
+
 /// Escapes in a name: control characters and others that no name has, and escapes that TOML has not.
-const ESCAPES: &str = r#"BadName block 1 call 1 | name = "\u0000"
+pub const TAKES_NO_NAME_OF_CONTROL_CHARACTERS: &str = r#"BadName block 1 call 1 | name = "\u0000"
 BadName block 1 call 1 | name = "\x7f"
 BadName block 1 call 1 | name = "\t"
 BadName block 1 call 1 | name = "\n"
@@ -95,9 +64,3 @@ Toml block 0 call 0 | name = "\U00110000"
 Toml block 0 call 0 | name = "\uD800"
 Toml block 0 call 0 | name = "\u61"
 Toml block 0 call 0 | name = "\a""#;
-
-#[test]
-fn takes_no_name_of_control_characters(rt: HostRuntime) -> Result<(), Fail> {
-    let front = format!(in rt.alloc(); "{CALL}op = \"cancel\"\n")?;
-    tells_each(&rt, front.as_str(), ESCAPES)
-}

@@ -1,20 +1,15 @@
 //! Texts that are a TOML document, version 1.1, and texts that are none: what is told of each is by the words of TOML.
 use super::*;
 
-/// Texts that are no TOML document.
-const NO_TOML: &str = r#"Toml block 0 call 0 | version = 3 / =
+/// Texts that are no TOML document, and one of no bytes.
+pub const REFUSES_AT_THE_TEXT: &str = r#"Toml block 0 call 0 | version = 3 / =
 Toml block 0 call 0 | version = 1 / version = 1
 Toml block 0 call 0 | version = 1 / x = 9223372036854775808
-Toml block 0 call 0 | version = 1 / [[block]] / at = 9223372036854775808"#;
-
-#[test]
-fn refuses_at_the_text(rt: HostRuntime) -> Result<(), Fail> {
-    tells_each(&rt, "", NO_TOML)?;
-    tells(&rt, "", "Version block 0 call 0")
-}
+Toml block 0 call 0 | version = 1 / [[block]] / at = 9223372036854775808
+Version block 0 call 0 | "#;
 
 /// Keys and tables that a text defines twice, and some that it may name again.
-const TWICE: &str = r#"Toml block 0 call 0 | "version" = 1
+pub const REFUSES_WHAT_STANDS_TWICE: &str = r#"Toml block 0 call 0 | "version" = 1
 Toml block 0 call 0 | version.x = 1
 Toml block 0 call 0 | [version]
 Toml block 0 call 0 | x = 1 / x.y = 1
@@ -36,40 +31,25 @@ WrongType block 0 call 0 | block.call = 1
 WrongType block 1 call 0 | [[block]] / [block.call]
 UnknownKey block 1 call 0 | [[block]] / [block.x]"#;
 
-#[test]
-fn refuses_what_stands_twice(rt: HostRuntime) -> Result<(), Fail> {
-    tells_each(&rt, "version = 1\n", TWICE)
-}
-
 /// Lines and line ends, and a byte order mark.
-const LINES: [(&str, &str); 15] = [
-    ("version = 1\r\n", "plan"),
-    ("version = 1 # one\r\n\r\n[[block]]\r\nat = 0", "plan"),
-    ("version = 1\r", "Toml block 0 call 0"),
-    ("version = 1\r[[block]]", "Toml block 0 call 0"),
-    ("version = 1\n\r[[block]]", "Toml block 0 call 0"),
-    ("version = 1 [[block]]", "Toml block 0 call 0"),
-    ("version\n= 1", "Toml block 0 call 0"),
-    ("version =\n1", "Toml block 0 call 0"),
-    ("[[block]\n]\nversion = 1", "Toml block 0 call 0"),
-    ("\u{feff}version = 1", "plan"),
-    ("\u{feff}", "Version block 0 call 0"),
-    ("\u{feff}\u{feff}version = 1", "Toml block 0 call 0"),
-    (" \u{feff}version = 1", "Toml block 0 call 0"),
-    ("version = 1\n\u{feff}", "Toml block 0 call 0"),
-    (
-        "version = 1 # \u{feff}\nx = '\u{feff}'",
-        "UnknownKey block 0 call 0",
-    ),
-];
-
-#[test]
-fn takes_line_ends_and_a_byte_order_mark_where_they_may_stand(rt: HostRuntime) -> Result<(), Fail> {
-    tells_of(&rt, &LINES)
-}
+pub const TAKES_LINE_ENDS_AND_A_BYTE_ORDER_MARK_WHERE_THEY_MAY_STAND: &str = r#"plan | version = 1␍⏎
+plan | version = 1 # one␍⏎␍⏎[[block]]␍⏎at = 0
+Toml block 0 call 0 | version = 1␍
+Toml block 0 call 0 | version = 1␍[[block]]
+Toml block 0 call 0 | version = 1⏎␍[[block]]
+Toml block 0 call 0 | version = 1 [[block]]
+Toml block 0 call 0 | version⏎= 1
+Toml block 0 call 0 | version =⏎1
+Toml block 0 call 0 | [[block]⏎]⏎version = 1
+plan | ⊕version = 1
+Version block 0 call 0 | ⊕
+Toml block 0 call 0 | ⊕⊕version = 1
+Toml block 0 call 0 |  ⊕version = 1
+Toml block 0 call 0 | version = 1⏎⊕
+UnknownKey block 0 call 0 | version = 1 # ⊕⏎x = '⊕'"#;
 
 /// What TOML has since version 1.1: times without seconds, lines and a last comma in an inline table, and two escapes.
-const SINCE_1_1: &str = r#"WrongType block 1 call 0 | at = 07:32
+pub const TAKES_WHAT_TOML_HAS_SINCE_VERSION_1_1: &str = r#"WrongType block 1 call 0 | at = 07:32
 WrongType block 1 call 0 | at = 1979-05-27T07:32Z
 plan | call = [{ / op = "schedule", # runs once / name = "a", / delay = 1, / }]
 plan | call = [{ op = "schedule", name = "\x61", delay = 1 }]
@@ -77,11 +57,6 @@ BadName block 1 call 1 | call = [{ op = "schedule", name = "\e", delay = 1 }]
 Toml block 0 call 0 | call = [{ op = "schedule", name = "\xg1", delay = 1 }]
 Toml block 0 call 0 | call = [{ op = "ask",, at = 1 }]
 Toml block 0 call 0 | call = [{ , op = "ask" }]"#;
-
-#[test]
-fn takes_what_toml_has_since_version_1_1(rt: HostRuntime) -> Result<(), Fail> {
-    tells_each(&rt, HEADER, SINCE_1_1)
-}
 
 /// Bytes behind the sign of a comment, and whether they are UTF-8.
 const COMMENTS: [(&[u8], bool); 15] = [

@@ -2,7 +2,7 @@
 use super::*;
 
 /// Faults of a header.
-const HEADERS: &str = r#"UnknownKey block 1 call 0 | x = 1
+pub const REFUSES_AT_THE_HEADER: &str = r#"UnknownKey block 1 call 0 | x = 1
 UnknownKey block 1 call 0 | name = "a"
 WrongType block 1 call 0 | at = "0"
 WrongType block 1 call 0 | unit = 1
@@ -20,13 +20,8 @@ TooLarge block 1 call 0 | at = 4611686018427387905
 TooLarge block 1 call 0 | every = 4611686018427387905
 TooLarge block 1 call 0 | unit = "s" / at = 9223372036854775807"#;
 
-#[test]
-fn refuses_at_the_header(rt: HostRuntime) -> Result<(), Fail> {
-    tells_each(&rt, HEADER, HEADERS)
-}
-
 /// Headers with two faults, each in both orders.
-const HEADERS_OF_TWO_FAULTS: &str = r#"UnknownKey block 1 call 0 | x = 1 / at = "0"
+pub const TELLS_THE_FIRST_FAULT_OF_A_HEADER: &str = r#"UnknownKey block 1 call 0 | x = 1 / at = "0"
 UnknownKey block 1 call 0 | at = "0" / x = 1
 WrongType block 1 call 0 | times = "2" / unit = "year"
 WrongType block 1 call 0 | unit = "year" / times = "2"
@@ -39,13 +34,8 @@ Missing block 1 call 0 | at = -1 / times = 2
 Negative block 1 call 0 | every = -1 / at = 4611686018427387905
 Negative block 1 call 0 | at = 4611686018427387905 / every = -1"#;
 
-#[test]
-fn tells_the_first_fault_of_a_header(rt: HostRuntime) -> Result<(), Fail> {
-    tells_each(&rt, HEADER, HEADERS_OF_TWO_FAULTS)
-}
-
 /// Faults of a second block, behind one that begins at 100.
-const LATER_HEADERS: &str =
+pub const REFUSES_A_HEADER_AFTER_ANOTHER_BLOCK: &str =
     r#"OutOfOrder block 2 call 0 | call = [{ op = "schedule", name = "a", delay = 1, at = 5 }] / [[block]] / at = 104 / call = [{ op = "schedule", name = "b", delay = 1 }, { op = "cancel", name = "b" }]
 OutOfOrder block 2 call 0 | call = [{ op = "schedule", name = "a", delay = 1, at = 5 }] / [[block]] / call = [{ op = "schedule", name = "b", delay = 1 }, { op = "cancel", name = "b" }]
 TooLarge block 2 call 0 | call = [{ op = "schedule", name = "a", delay = 1, at = 5 }] / [[block]] / at = 104 / every = 4611686018427387905 / call = [{ op = "schedule", name = "b", delay = 1 }, { op = "cancel", name = "b" }]
@@ -54,8 +44,3 @@ TooMany block 2 call 0 | call = [{ op = "schedule", name = "a", delay = 1, at = 
 OutOfOrder block 2 call 0 | times = 3 / every = 10 / call = [{ op = "schedule", name = "a", delay = 1, at = 5 }] / [[block]] / at = 124 / call = [{ op = "schedule", name = "b", delay = 1 }, { op = "cancel", name = "b" }]
 OutOfOrder block 2 call 0 | unit = "us" / call = [{ op = "schedule", name = "a", delay = 1, at = 5 }] / [[block]] / at = 104999 / call = [{ op = "schedule", name = "b", delay = 1 }, { op = "cancel", name = "b" }]
 plan | [[block]] / at = 99 / [[block]] / at = 99"#;
-
-#[test]
-fn refuses_a_header_after_another_block(rt: HostRuntime) -> Result<(), Fail> {
-    tells_each(&rt, LATE_BLOCK, LATER_HEADERS)
-}

@@ -79,7 +79,7 @@ pub fn told_of_fault(
         Ok(_) => Ok(format!(in alloc; "{fault}, but it migrates")?),
         Err(other) => {
             if *other == *fault {
-                return spelled(alloc, fault);
+                return text_of_fault(alloc, fault);
             }
             Ok(format!(in alloc; "{fault}, but to migrate it is {other}")?)
         }
@@ -92,94 +92,58 @@ fn has_line(text: &str, line: &str) -> bool {
 }
 
 /// Texts of version 1, lines that their migrated texts have, and pieces that those have not.
-const MIGRATED: [(&str, &[&str], &[&str]); 5] = [
-    (
-        "version = 1\n[[block]]\nunit = \"s\"\n[[block.call]]\nop = \"schedule\"\nname = \"a\"\ndelay = 4611686018",
-        &["version = 2", "delay = 4611686018", "delay_unit = \"s\""],
-        &[
-            "at_unit",
-            "every_unit",
-            "first_unit",
-            "period_unit",
-            "\nunit",
-        ],
-    ),
-    (
-        "version = 1\n[[block]]\nunit = \"ms\"\nat = 0\nevery = 3\n[[block.call]]\nop = \"ask\"",
-        &[
-            "version = 2",
-            "at = 0",
-            "at_unit = \"ms\"",
-            "every = 3",
-            "every_unit = \"ms\"",
-            "op = \"ask\"",
-        ],
-        &["delay_unit", "first_unit", "period_unit", "\nunit"],
-    ),
-    (
-        "version = 1\n[[block]]\nunit = \"us\"\n[[block.call]]\nop = \"rate\"\nname = \"a\"\nfirst = 4\nperiod = -5\nat = 6",
-        &[
-            "first = 4",
-            "first_unit = \"us\"",
-            "period = -5",
-            "period_unit = \"us\"",
-            "at = 6",
-            "at_unit = \"us\"",
-        ],
-        &["delay_unit", "every_unit", "\nunit"],
-    ),
-    (
-        "version = 1\n[[block]]\nat = 3\n[[block.call]]\nop = \"execute\"\nname = \"a\"\nat = 1",
-        &["version = 2", "at = 3", "at = 1", "name = \"a\""],
-        &["unit"],
-    ),
-    (
-        "version = 1 # one\n[[block]]\nunit = \"s\"",
-        &["version = 2", "[[block]]"],
-        &["unit", "one"],
-    ),
-];
+const MIGRATED: &str =
+    r#"version = 1 / [[block]] / unit = "s" / [[block.call]] / op = "schedule" / name = "a" / delay = 4611686018 | version = 2, delay = 4611686018, delay_unit = "s" | at_unit, every_unit, first_unit, period_unit, ⏎unit
+version = 1 / [[block]] / unit = "ms" / at = 0 / every = 3 / [[block.call]] / op = "ask" | version = 2, at = 0, at_unit = "ms", every = 3, every_unit = "ms", op = "ask" | delay_unit, first_unit, period_unit, ⏎unit
+version = 1 / [[block]] / unit = "us" / [[block.call]] / op = "rate" / name = "a" / first = 4 / period = -5 / at = 6 | first = 4, first_unit = "us", period = -5, period_unit = "us", at = 6, at_unit = "us" | delay_unit, every_unit, ⏎unit
+version = 1 / [[block]] / at = 3 / [[block.call]] / op = "execute" / name = "a" / at = 1 | version = 2, at = 3, at = 1, name = "a" | unit
+version = 1 # one / [[block]] / unit = "s" | version = 2, [[block]] | unit, one"#;
+
+/// Checks which lines the migrated text of a text has, which pieces it has not, and what is told of both.
+fn migrates(
+    rt: &(impl AllocGlobal + Abort),
+    text: &str,
+    lines: &str,
+    absent: &str,
+) -> Result<(), Fail> {
+    let second = migrated(rt.alloc(), text.as_bytes())?;
+    for line in lines.split(", ") {
+        assert!(rt; has_line(second.as_str(), line), "{line} of {text}");
+    }
+    for piece in absent.split(", ") {
+        assert!(rt; !second.as_str().contains(piece), "{piece} of {text}");
+    }
+    tells(rt, text, "plan")?;
+    tells(rt, second.as_str(), "plan 2")
+}
 
 #[test]
 fn a_migrated_text_has_the_unit_beside_each_time(rt: HostRuntime) -> Result<(), Fail> {
-    for (text, lines, absent) in MIGRATED {
-        let second = migrated(rt.alloc(), text.as_bytes())?;
-        let second = second.as_str();
-        for line in lines {
-            assert!(rt; has_line(second, line), "{line} of {text}");
-        }
-        for piece in absent {
-            assert!(rt; !second.contains(*piece), "{piece} of {text}");
-        }
-        tells_of(&rt, &[(text, "plan"), (second, "plan 2")])?;
+    for row in MIGRATED.lines() {
+        let columns: Vec<&str> = row.split(" | ").collect(rt.alloc())?;
+        let [text, lines, absent] = columns.as_slice() else {
+            return Err("a row is short".into());
+        };
+        let text = spelled(rt.alloc(), text)?;
+        let absent = spelled(rt.alloc(), absent)?;
+        migrates(&rt, text.as_str(), lines, absent.as_str())?;
     }
     Ok(())
 }
 
 /// Texts of version 1 and what their migrated texts write.
-const KEPT: [(&str, &str); 3] = [
-    (
-        "version = 1
-[[block]]
-at = 7
-unit = \"us\"
-times = 2
-every = 9
-call = [
-  { op = \"rate\", name = \"Az-_09\", first = 4, period = 5, at = 2 },
-  { op = \"fixed\", name = \"never\", first = 6, delay = 0, at = 9 },
-]
-[[block]]
-at = 1000000
-",
-        "block 7000 Ns 2 9000
+const KEPT: [Kept<'_>; 3] = [
+    Kept {
+        lines: "block 7000 Ns 2 9000
 2000 rate Az-_09 4000 5000
 9000 fixed never 6000 none
 block 1000000 Ns 1 0
 ",
-    ),
-    (
-        "version = 1
+        ..parts::PARTS_OF_A_PLAN
+    },
+    Kept {
+        name: "calls of two units",
+        text: "version = 1
 [[block]]
 unit = \"s\"
 at = 1
@@ -189,7 +153,7 @@ unit = \"ms\"
 at = 1000
 call = [{ op = \"cancel\", name = \"a\" }, { op = \"ask\", at = 1 }, { op = \"shutdown\", at = 2 }]
 ",
-        "block 1000000000 Ns 1 0
+        lines: "block 1000000000 Ns 1 0
 0 schedule a 0
 0 policy Remove false
 block 1000000000 Ns 1 0
@@ -197,15 +161,19 @@ block 1000000000 Ns 1 0
 1000000 ask
 2000000 shutdown
 ",
-    ),
-    ("version = 1\nblock = []", ""),
+    },
+    Kept {
+        name: "no block",
+        text: "version = 1\nblock = []",
+        lines: "",
+    },
 ];
 
 #[test]
 fn a_migrated_text_keeps_the_plan_in_nanoseconds(rt: HostRuntime) -> Result<(), Fail> {
-    for (text, lines) in KEPT {
-        let second = migrated(rt.alloc(), text.as_bytes())?;
-        reads(&rt, second.as_str(), lines)?;
+    for row in &KEPT {
+        let second = migrated(rt.alloc(), row.text.as_bytes())?;
+        reads(&rt, row.name, second.as_str(), row.lines)?;
     }
     Ok(())
 }

@@ -2,7 +2,7 @@
 use super::*;
 
 /// Names of a third block.
-const NAMES_OF_BLOCKS: &str =
+pub const REFUSES_NAMES_OVER_ALL_BLOCKS: &str =
     r#"DuplicateName block 3 call 1 | call = [{ op = "schedule", name = "a", delay = 1 }] / [[block]] / at = 9 / [[block]] / at = 9 / call = [{ op = "schedule", name = "a", delay = 1 }]
 DuplicateName block 3 call 1 | call = [{ op = "schedule", name = "a", delay = 1 }] / [[block]] / at = 9 / [[block]] / at = 9 / call = [{ op = "rate", name = "a", first = 1, period = 0 }]
 UnknownName block 3 call 1 | call = [{ op = "schedule", name = "a", delay = 1 }] / [[block]] / at = 9 / [[block]] / at = 9 / call = [{ op = "cancel", name = "b" }]
@@ -12,11 +12,6 @@ Ambiguous block 3 call 1 | times = 2 / every = 5 / call = [{ op = "execute", nam
 Ambiguous block 3 call 1 | times = 2 / every = 5 / call = [{ op = "schedule", name = "a", delay = 1 }] / [[block]] / at = 9 / [[block]] / at = 9 / call = [{ op = "cancel", name = "a" }]
 Ambiguous block 3 call 1 | times = 2 / every = 5 / call = [{ op = "schedule", name = "a", delay = 1 }] / [[block]] / at = 9 / [[block]] / at = 9 / call = [{ op = "cancel", name = "a", at = -1 }]
 UnknownName block 3 call 1 | times = 2 / every = 5 / call = [{ op = "schedule", name = "a", delay = 1 }] / [[block]] / at = 9 / [[block]] / at = 9 / call = [{ op = "cancel", name = "b", at = -1 }]"#;
-
-#[test]
-fn refuses_names_over_all_blocks(rt: HostRuntime) -> Result<(), Fail> {
-    tells_each(&rt, HEADER, NAMES_OF_BLOCKS)
-}
 
 #[test]
 fn takes_names_of_32_bytes(rt: HostRuntime) -> Result<(), Fail> {

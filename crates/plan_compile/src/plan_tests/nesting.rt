@@ -1,115 +1,76 @@
 //! Values and keys to the depth that `toml` takes, 80, and beyond; and long texts that are all of one piece, or all of keys.
 use super::*;
 
-/// What stands behind `version = 1`: a front, a piece so many times, a middle, and as often a piece that closes; and what is told
-/// of the text.
-type Pieces<'a> = (&'a str, &'a str, usize, &'a str, &'a str, &'a str);
-
-/// What is told of a text that is no TOML document.
-const TOML: &str = "Toml block 0 call 0";
-
-/// What is told of a document with a key of another name at the top.
-const UNKNOWN: &str = "UnknownKey block 0 call 0";
-
-/// Arrays, inline tables, both by turns, the parts of a key and those of a header.
-const DEEP: [Pieces<'_>; 22] = [
-    ("x = ", "[", 80, "", "]", UNKNOWN),
-    ("x = ", "[", 81, "", "]", TOML),
-    ("x = ", "[", 80, "1", "]", UNKNOWN),
-    ("x = ", "[", 81, "1", "]", TOML),
-    ("x = ", "{x=", 80, "1", "}", UNKNOWN),
-    ("x = ", "{x=", 81, "1", "}", TOML),
-    ("x = ", "[{x=", 40, "1", "}]", UNKNOWN),
-    ("x = ", "[{x=", 40, "[]", "}]", TOML),
-    ("x = ", "[{x=", 40, "{}", "}]", TOML),
-    ("", "x.", 79, "x = 1", "", UNKNOWN),
-    ("", "x.", 80, "x = 1", "", TOML),
-    ("[", "x.", 79, "x]", "", UNKNOWN),
-    ("[", "x.", 80, "x]", "", TOML),
-    ("[[", "x.", 79, "x]]", "", UNKNOWN),
-    ("[[", "x.", 80, "x]]", "", TOML),
-    ("block = ", "[", 80, "", "]", "WrongType block 0 call 0"),
-    ("block = ", "[", 81, "", "]", TOML),
-    (
-        "[[block]]\nat = ",
-        "[",
-        80,
-        "",
-        "]",
-        "WrongType block 1 call 0",
-    ),
-    ("[[block]]\nat = ", "[", 81, "", "]", TOML),
-    ("x = ", "[", 10_000, "", "]", TOML),
-    ("x = ", "{x=", 10_000, "1", "}", TOML),
-    ("", "x.", 10_000, "x = 1", "", TOML),
-];
+/// Arrays, inline tables, both by turns, the parts of a key and those of a header: what is told of a text, how often it has its piece,
+/// and then the text behind `version = 1`: a front, the piece, a middle, and what closes a piece.
+const DEEP: &str = r#"UnknownKey block 0 call 0¦80¦x = ¦[¦¦]
+Toml block 0 call 0¦81¦x = ¦[¦¦]
+UnknownKey block 0 call 0¦80¦x = ¦[¦1¦]
+Toml block 0 call 0¦81¦x = ¦[¦1¦]
+UnknownKey block 0 call 0¦80¦x = ¦{x=¦1¦}
+Toml block 0 call 0¦81¦x = ¦{x=¦1¦}
+UnknownKey block 0 call 0¦40¦x = ¦[{x=¦1¦}]
+Toml block 0 call 0¦40¦x = ¦[{x=¦[]¦}]
+Toml block 0 call 0¦40¦x = ¦[{x=¦{}¦}]
+UnknownKey block 0 call 0¦79¦¦x.¦x = 1¦
+Toml block 0 call 0¦80¦¦x.¦x = 1¦
+UnknownKey block 0 call 0¦79¦[¦x.¦x]¦
+Toml block 0 call 0¦80¦[¦x.¦x]¦
+UnknownKey block 0 call 0¦79¦[[¦x.¦x]]¦
+Toml block 0 call 0¦80¦[[¦x.¦x]]¦
+WrongType block 0 call 0¦80¦block = ¦[¦¦]
+Toml block 0 call 0¦81¦block = ¦[¦¦]
+WrongType block 1 call 0¦80¦[[block]]⏎at = ¦[¦¦]
+Toml block 0 call 0¦81¦[[block]]⏎at = ¦[¦¦]
+Toml block 0 call 0¦10000¦x = ¦[¦¦]
+Toml block 0 call 0¦10000¦x = ¦{x=¦1¦}
+Toml block 0 call 0¦10000¦¦x.¦x = 1¦"#;
 
 /// Long texts, each made of one piece.
-const LONG: [Pieces<'_>; 18] = [
-    ("", "[", 100_000, "", "", TOML),
-    ("x = ", "[", 100_000, "", "", TOML),
-    ("x = ", "{x=", 30_000, "", "", TOML),
-    ("x = ", "[{x=", 30_000, "", "", TOML),
-    ("x = ", "1", 100_000, "", "", TOML),
-    ("x = ", "0", 100_000, "1", "", TOML),
-    ("x = ", "\"", 100_000, "", "", TOML),
-    ("", "x", 100_000, " = 1", "", UNKNOWN),
-    ("", "[[x]]\n", 20_000, "", "", UNKNOWN),
-    ("x = [", "1,", 50_000, "]", "", UNKNOWN),
-    ("x = [", "[],", 30_000, "]", "", UNKNOWN),
-    ("x = \"", "\\t", 50_000, "\"", "", UNKNOWN),
-    ("", "[[block]]\n", 10_000, "", "", "TooMany block 0 call 0"),
-    (
-        "block = [",
-        "{},",
-        30_000,
-        "]",
-        "",
-        "TooMany block 0 call 0",
-    ),
-    (
-        "[[block]]\ncall = [",
-        "{},",
-        30_000,
-        "]",
-        "",
-        "TooMany block 1 call 0",
-    ),
-    (
-        "[[block]]\ncall = [{ op = \"cancel\", name = \"",
-        "a",
-        100_000,
-        "\" }]",
-        "",
-        "BadName block 1 call 1",
-    ),
-    ("", "\n", 100_000, "[[block]]", "", "plan"),
-    ("", "#\r\n", 30_000, "[[block]]", "", "plan"),
-];
+const LONG: &str = r#"Toml block 0 call 0¦100000¦¦[¦¦
+Toml block 0 call 0¦100000¦x = ¦[¦¦
+Toml block 0 call 0¦30000¦x = ¦{x=¦¦
+Toml block 0 call 0¦30000¦x = ¦[{x=¦¦
+Toml block 0 call 0¦100000¦x = ¦1¦¦
+Toml block 0 call 0¦100000¦x = ¦0¦1¦
+Toml block 0 call 0¦100000¦x = ¦"¦¦
+UnknownKey block 0 call 0¦100000¦¦x¦ = 1¦
+UnknownKey block 0 call 0¦20000¦¦[[x]]⏎¦¦
+UnknownKey block 0 call 0¦50000¦x = [¦1,¦]¦
+UnknownKey block 0 call 0¦30000¦x = [¦[],¦]¦
+UnknownKey block 0 call 0¦50000¦x = "¦\t¦"¦
+TooMany block 0 call 0¦10000¦¦[[block]]⏎¦¦
+TooMany block 0 call 0¦30000¦block = [¦{},¦]¦
+TooMany block 1 call 0¦30000¦[[block]]⏎call = [¦{},¦]¦
+BadName block 1 call 1¦100000¦[[block]]⏎call = [{ op = "cancel", name = "¦a¦" }]¦
+plan¦100000¦¦⏎¦[[block]]¦
+plan¦30000¦¦#␍⏎¦[[block]]¦"#;
 
 /// Checks what is told of each text.
-fn tells_pieces(rt: &(impl AllocGlobal + Abort), rows: &[Pieces<'_>]) -> Result<(), Fail> {
-    for (front, piece, count, middle, close, fault) in rows {
-        let pieces = piece.repeat(rt.alloc(), *count)?;
-        let closed = close.repeat(rt.alloc(), *count)?;
+fn tells_pieces(rt: &(impl AllocGlobal + Abort), rows: &str) -> Result<(), Fail> {
+    for row in rows.lines() {
+        let columns: Vec<&str> = row.split("¦").collect(rt.alloc())?;
+        let [fault, count, front, piece, middle, close] = columns.as_slice() else {
+            return Err("a row is short".into());
+        };
+        let count = count.parse::<usize>()?;
+        let pieces = piece.repeat(rt.alloc(), count)?;
+        let closed = close.repeat(rt.alloc(), count)?;
         let text = format!(in rt.alloc(); "version = 1\n{front}{pieces}{middle}{closed}")?;
-        let answer = told(rt.alloc(), text.as_str())?;
-        assert!(rt;
-            answer.as_str() == *fault,
-            "{front}{piece} {count}: {answer}"
-        );
+        let answer = told(rt.alloc(), spelled(rt.alloc(), text.as_str())?.as_str())?;
+        assert!(rt; answer.as_str() == *fault, "{row}: {answer}");
     }
     Ok(())
 }
 
 #[test]
 fn takes_values_and_keys_80_deep(rt: HostRuntime) -> Result<(), Fail> {
-    tells_pieces(&rt, &DEEP)
+    tells_pieces(&rt, DEEP)
 }
 
 #[test]
 fn answers_long_texts_of_one_piece(rt: HostRuntime) -> Result<(), Fail> {
-    tells_pieces(&rt, &LONG)
+    tells_pieces(&rt, LONG)
 }
 
 /// A text of 10,000 keys of its own, or of as many headers: what stands before the number of each, and behind it.
@@ -133,7 +94,7 @@ fn answers_texts_of_many_keys(rt: HostRuntime) -> Result<(), Fail> {
         let text = many_keys(rt.alloc(), open, close)?;
         // It is read once, and not migrated too, as `told` does: each reading of the third takes a while.
         let fault = read(rt.alloc(), text.as_bytes()).err().ok_or("a plan")?;
-        assert!(rt; spelled(rt.alloc(), &fault)?.as_str() == UNKNOWN);
+        assert!(rt; text_of_fault(rt.alloc(), &fault)?.as_str() == "UnknownKey block 0 call 0");
     }
     Ok(())
 }

@@ -2,7 +2,8 @@
 use super::*;
 
 /// The bounds of integers, those of i64, in each form. One beyond them is no TOML here, wherever it stands.
-const BOUNDS: &str = r#"TooLarge block 1 call 0 | at = 9223372036854775807
+pub const TAKES_INTEGERS_TO_THEIR_BOUNDS: &str =
+    r#"TooLarge block 1 call 0 | at = 9223372036854775807
 TooLarge block 1 call 0 | at = +9_223_372_036_854_775_807
 TooLarge block 1 call 0 | at = 0x7FFFFFFFFFFFFFFF
 TooLarge block 1 call 0 | at = 0o777777777777777777777
@@ -29,13 +30,8 @@ TooLarge block 1 call 0 | at = 0x4000000000000001
 TooLarge block 1 call 0 | at = 0o400000000000000000001
 TooLarge block 1 call 0 | at = 0b100000000000000000000000000000000000000000000000000000000000001"#;
 
-#[test]
-fn takes_integers_to_their_bounds(rt: HostRuntime) -> Result<(), Fail> {
-    tells_each(&rt, HEADER, BOUNDS)
-}
-
 /// Words that TOML has not as values.
-const NO_VALUES: &str = r#"Toml block 0 call 0 | at = 01
+pub const REFUSES_WORDS_THAT_ARE_NO_VALUES: &str = r#"Toml block 0 call 0 | at = 01
 Toml block 0 call 0 | at = +01
 Toml block 0 call 0 | at = -01
 Toml block 0 call 0 | at = 00
@@ -67,13 +63,8 @@ Toml block 0 call 0 | at = True
 Toml block 0 call 0 | at = one
 Toml block 0 call 0 | at ="#;
 
-#[test]
-fn refuses_words_that_are_no_values(rt: HostRuntime) -> Result<(), Fail> {
-    tells_each(&rt, HEADER, NO_VALUES)
-}
-
 /// Values that are no integers, in the place of one, and dates in the place of others.
-const NO_INTEGERS: &str = r#"WrongType block 1 call 0 | at = 1.0
+pub const TAKES_NO_OTHER_VALUE_FOR_AN_INTEGER: &str = r#"WrongType block 1 call 0 | at = 1.0
 WrongType block 1 call 0 | at = -0.0
 WrongType block 1 call 0 | at = 1e3
 WrongType block 1 call 0 | at = 9223372036854775808.0
@@ -96,41 +87,35 @@ WrongType block 1 call 1 | call = [{ op = "schedule", name = "a", delay = 1979-0
 WrongType block 1 call 1 | call = [{ op = "rate", name = "a", first = 0, period = 1e3 }]
 WrongType block 1 call 1 | call = [{ op = "ask", at = 07:32:00 }]"#;
 
-#[test]
-fn takes_no_other_value_for_an_integer(rt: HostRuntime) -> Result<(), Fail> {
-    tells_each(&rt, HEADER, NO_INTEGERS)
-}
-
 /// Ways to write an integer, and the integer.
-const FORMS: [(&str, u64); 18] = [
-    ("0", 0),
-    ("+0", 0),
-    ("-0", 0),
-    ("+5", 5),
-    ("1_000", 1000),
-    ("1_2_3", 123),
-    ("0x0", 0),
-    ("0x10", 16),
-    ("0x1_0", 16),
-    ("0x0010", 16),
-    ("0xDEADbeef", 3_735_928_559),
-    ("0o17", 15),
-    ("0o7_7", 63),
-    ("0b101", 5),
-    ("0b1_01", 5),
-    ("+65_536", 65_536),
-    ("4_611_686_018_427_387_904", 4_611_686_018_427_387_904),
-    ("0x4000000000000000", 4_611_686_018_427_387_904),
-];
+const FORMS: &str = "0 0
++0 0
+-0 0
++5 5
+1_000 1000
+1_2_3 123
+0x0 0
+0x10 16
+0x1_0 16
+0x0010 16
+0xDEADbeef 3735928559
+0o17 15
+0o7_7 63
+0b101 5
+0b1_01 5
++65_536 65536
+4_611_686_018_427_387_904 4611686018427387904
+0x4000000000000000 4611686018427387904";
 
 #[test]
 fn reads_integers_in_each_form(rt: HostRuntime) -> Result<(), Fail> {
-    for (written, value) in FORMS {
+    for form in FORMS.lines() {
+        let (written, value) = form.split_once(" ").ok_or("no integer")?;
         let text = format!(in rt.alloc();
             "{CALL}op = \"schedule\"\nname = \"a\"\ndelay = {written}"
         )?;
         let lines = format!(in rt.alloc(); "block 0 Ns 1 0\n0 schedule a {value}\n")?;
-        reads(&rt, text.as_str(), lines.as_str())?;
+        reads(&rt, form, text.as_str(), lines.as_str())?;
     }
     Ok(())
 }

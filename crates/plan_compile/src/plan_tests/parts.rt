@@ -1,28 +1,17 @@
 //! What a plan keeps of its text.
 use super::*;
 
-#[test]
-fn reads_plans_without_calls(rt: HostRuntime) -> Result<(), Fail> {
-    for (text, blocks) in [
-        ("version = 1", 0usize),
-        ("version = 1\nblock = []", 0),
-        ("version = 1\n[[block]]", 1),
-        ("version = 1\n[[block]]\ncall = []\n[[block]]", 2),
-        (
-            "block = [{ call = [], times = 65536, every = 4611686018427387904 }]\nversion = 1",
-            1,
-        ),
-    ] {
-        reads_sizes(&rt, text, blocks, 0)?;
-    }
-    Ok(())
+/// A text, and what its plan keeps: a line for each block and each call.
+#[derive(Clone, Copy)]
+pub struct Kept<'a> {
+    pub name: &'a str,
+    pub text: &'a str,
+    pub lines: &'a str,
 }
 
-#[test]
-fn keeps_the_parts_of_a_plan(rt: HostRuntime) -> Result<(), Fail> {
-    reads(
-        &rt,
-        "version = 1
+pub const PARTS_OF_A_PLAN: Kept<'static> = Kept {
+    name: "parts of a plan",
+    text: "version = 1
 [[block]]
 at = 7
 unit = \"us\"
@@ -35,19 +24,16 @@ call = [
 [[block]]
 at = 1000000
 ",
-        "block 7000 Us 2 9000
+    lines: "block 7000 Us 2 9000
 2000 rate Az-_09 4000 5000
 9000 fixed never 6000 none
 block 1000000 Ns 1 0
 ",
-    )
-}
+};
 
-#[test]
-fn keeps_policies_shutdowns_and_questions(rt: HostRuntime) -> Result<(), Fail> {
-    reads(
-        &rt,
-        "version = 1
+const POLICIES_SHUTDOWNS_AND_QUESTIONS: Kept<'static> = Kept {
+    name: "policies, shutdowns and questions",
+    text: "version = 1
 [[block]]
 unit = \"us\"
 call = [
@@ -59,7 +45,7 @@ call = [
   { op = \"ask\", at = 3 },
 ]
 ",
-        "block 0 Us 1 0
+    lines: "block 0 Us 1 0
 0 policy Continue true
 1000 policy Execute false
 2000 policy Remove true
@@ -67,14 +53,11 @@ call = [
 2000 shutdown_now
 3000 ask
 ",
-    )
-}
+};
 
-#[test]
-fn keeps_the_target_of_a_cancel(rt: HostRuntime) -> Result<(), Fail> {
-    reads(
-        &rt,
-        "version = 1
+const TARGETS_OF_CANCELS: Kept<'static> = Kept {
+    name: "targets of cancels",
+    text: "version = 1
 [[block]]
 call = [
   { op = \"schedule\", name = \"a\", delay = 1 },
@@ -92,7 +75,7 @@ call = [
   { op = \"cancel\", name = \"e\", at = 5 },
 ]
 ",
-        "block 0 Ns 1 0
+    lines: "block 0 Ns 1 0
 0 schedule a 1
 0 rate b 1 none
 block 0 Ns 2 5
@@ -103,5 +86,41 @@ block 0 Ns 2 5
 5 cancel 1 1
 5 cancel 1 2
 ",
-    )
+};
+
+/// Plans without calls, and times: the longest of each unit of version 1, and some in days. A row has what the plan keeps, ` | `, and
+/// the text.
+const KEPT: &str = r#" | version = 1
+ | version = 1 / block = []
+block 0 Ns 1 0 | version = 1 / [[block]]
+block 0 Ns 1 0 / block 0 Ns 1 0 | version = 1 / [[block]] / call = [] / [[block]]
+block 0 Ns 65536 4611686018427387904 | block = [{ call = [], times = 65536, every = 4611686018427387904 }] / version = 1
+block 0 Ns 1 0 / 4611686018427387904 schedule a 4611686018427387904 | version = 1 / [[block]] / unit = "ns" / [[block.call]] / op = "schedule" / name = "a" / delay = 4611686018427387904 / at = 4611686018427387904
+block 0 Us 1 0 / 4611686018427387000 schedule a 4611686018427387000 | version = 1 / [[block]] / unit = "us" / [[block.call]] / op = "schedule" / name = "a" / delay = 4611686018427387 / at = 4611686018427387
+block 0 Ms 1 0 / 4611686018427000000 schedule a 4611686018427000000 | version = 1 / [[block]] / unit = "ms" / [[block.call]] / op = "schedule" / name = "a" / delay = 4611686018427 / at = 4611686018427
+block 0 S 1 0 / 4611686018000000000 schedule a 4611686018000000000 | version = 1 / [[block]] / unit = "s" / [[block.call]] / op = "schedule" / name = "a" / delay = 4611686018 / at = 4611686018
+block 0 S 1 0 / 0 schedule a 0 | version = 1 / [[block]] / unit = "s" / call = [{ op = "schedule", name = "a", delay = -9223372036854775808 }]
+block 0 Ns 1 0 / 0 schedule a 4611600000000000000 | version = 2 / [[block]] / [[block.call]] / op = "schedule" / name = "a" / delay_unit = "d" / delay = 53375"#;
+
+#[test]
+fn keeps_each_part(rt: HostRuntime) -> Result<(), Fail> {
+    for row in [
+        PARTS_OF_A_PLAN,
+        POLICIES_SHUTDOWNS_AND_QUESTIONS,
+        TARGETS_OF_CANCELS,
+        times::FOUR_UNITS,
+        times::NANOSECONDS_BESIDE_UNITS,
+    ] {
+        reads(&rt, row.name, row.text, row.lines)?;
+    }
+    for row in KEPT.lines() {
+        let (lines, text) = row.split_once(" | ").ok_or("no text")?;
+        let mut lines = spelled(rt.alloc(), lines)?;
+        if !lines.is_empty() {
+            lines.push('\n')?;
+        }
+        let text = spelled(rt.alloc(), text)?;
+        reads(&rt, row, text.as_str(), lines.as_str())?;
+    }
+    Ok(())
 }

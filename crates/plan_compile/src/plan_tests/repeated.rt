@@ -2,7 +2,7 @@
 use super::*;
 
 /// Policies, shutdowns of both kinds and questions in repeated blocks; none is a submission that a cancel could name.
-const REPEATED_OTHERS: &str =
+pub const REFUSES_A_POLICY_A_SHUTDOWN_AND_A_QUESTION_IN_A_REPEATED_BLOCK: &str =
     r#"OutOfOrder block 1 call 2 | times = 2 / every = 4 / call = [{ op = "ask", at = 4 }, { op = "policy", which = "continue", value = false, at = 3 }]
 OutOfOrder block 1 call 2 | times = 2 / every = 9 / call = [{ op = "ask", at = 4 }, { op = "policy", which = "continue", value = false, at = 10 }]
 TooLarge block 1 call 2 | times = 2 / every = 4611686018427387900 / call = [{ op = "ask", at = 4 }, { op = "policy", which = "continue", value = false, at = 5 }]
@@ -28,15 +28,8 @@ TooMany block 1 call 0 | times = 32769 / every = 0 / call = [{ op = "ask" }, { o
 plan | times = 32768 / every = 9 / call = [{ op = "ask" }, { op = "ask", at = 9 }]
 UnknownName block 1 call 2 | call = [{ op = "ask" }, { op = "cancel", name = "ask" }]"#;
 
-#[test]
-fn refuses_a_policy_a_shutdown_and_a_question_in_a_repeated_block(
-    rt: HostRuntime,
-) -> Result<(), Fail> {
-    tells_each(&rt, HEADER, REPEATED_OTHERS)
-}
-
 /// Calls of blocks by their headers and offsets.
-const REPEATED_CALLS: &str =
+pub const REFUSES_CALLS_OF_A_REPEATED_BLOCK: &str =
     r#"OutOfOrder block 1 call 1 | times = 2 / every = 4 / call = [{ op = "schedule", name = "a", delay = 1, at = 5 }]
 plan | times = 2 / every = 4 / call = [{ op = "schedule", name = "a", delay = 1, at = 4 }]
 OutOfOrder block 1 call 1 | times = 2 / every = 4 / call = [{ op = "execute", name = "a", at = 5 }]
@@ -50,13 +43,8 @@ TooLarge block 1 call 1 | at = 1 / times = 2 / every = 4611686018427387904 / cal
 plan | at = 4 / times = 3 / every = 2305843009213693948 / call = [{ op = "schedule", name = "a", delay = 1, at = 4 }]
 TooLarge block 1 call 1 | at = 4 / times = 3 / every = 2305843009213693948 / call = [{ op = "schedule", name = "a", delay = 1, at = 5 }]"#;
 
-#[test]
-fn refuses_calls_of_a_repeated_block(rt: HostRuntime) -> Result<(), Fail> {
-    tells_each(&rt, HEADER, REPEATED_CALLS)
-}
-
 /// As many calls as a plan may have, and more.
-const MANY_CALLS: &str =
+pub const TAKES_65536_CALLS_OF_A_PLAN: &str =
     r#"plan | times = 65536 / every = 0 / call = [{ op = "schedule", name = "a", delay = 1 }]
 plan | times = 65536 / every = 0 / call = [{ op = "schedule", name = "a", delay = 1 }] / [[block]]
 plan | times = 65535 / every = 0 / call = [{ op = "schedule", name = "a", delay = 1 }] / [[block]] / call = [{ op = "schedule", name = "b", delay = 1 }]
@@ -66,8 +54,3 @@ TooMany block 1 call 0 | times = 32769 / every = 0 / call = [{ op = "execute", n
 TooMany block 2 call 0 | times = 65536 / every = 0 / call = [{ op = "schedule", name = "a", delay = 1 }] / [[block]] / call = [{ op = "schedule", name = "b", delay = 1 }]
 TooMany block 2 call 0 | times = 32768 / every = 0 / call = [{ op = "schedule", name = "a", delay = 1 }, { op = "cancel", name = "a" }] / [[block]] / call = [{ op = "schedule", name = "b", delay = 1 }]
 TooMany block 1 call 0 | times = 32769 / every = 0 / call = [{ op = "schedule", name = "a", delay = 1 }, { op = "cancel", name = "a" }]"#;
-
-#[test]
-fn takes_65536_calls_of_a_plan(rt: HostRuntime) -> Result<(), Fail> {
-    tells_each(&rt, HEADER, MANY_CALLS)
-}

@@ -23,7 +23,8 @@ fn takes_a_plan_of_the_longest_text(rt: HostRuntime) -> Result<(), Fail> {
 }
 
 /// Versions, and faults at the top.
-const TOPS: &str = r#"Version block 0 call 0 | version = 1.0
+pub const TAKES_VERSIONS_1_AND_2_AND_REFUSES_AT_THE_TOP: &str =
+    r#"Version block 0 call 0 | version = 1.0
 Version block 0 call 0 | version = 2.0
 Version block 0 call 0 | version = -1
 Version block 0 call 0 | version = 0
@@ -52,8 +53,3 @@ WrongType block 0 call 0 | version = 1 / block = [{}, 1]
 WrongType block 0 call 0 | version = 1 / [block]
 WrongType block 0 call 0 | version = 2 / block = [{}, 1]
 WrongType block 0 call 0 | version = 2 / [block]"#;
-
-#[test]
-fn takes_versions_1_and_2_and_refuses_at_the_top(rt: HostRuntime) -> Result<(), Fail> {
-    tells_each(&rt, "", TOPS)
-}

@@ -2,7 +2,8 @@
 use super::*;
 
 /// Headers of version 2 with two faults, each in both orders.
-const HEADERS_OF_TWO_FAULTS: &str = r#"UnknownKey block 1 call 0 | unit = "s" / at_unit = 1
+pub const TELLS_THE_FIRST_FAULT_OF_A_HEADER_WITH_UNITS: &str =
+    r#"UnknownKey block 1 call 0 | unit = "s" / at_unit = 1
 UnknownKey block 1 call 0 | at_unit = 1 / unit = "s"
 UnknownKey block 1 call 0 | unit = "year" / every_unit = "year"
 UnknownKey block 1 call 0 | every_unit = "year" / unit = "year"
@@ -53,13 +54,9 @@ Negative block 1 call 0 | every = -1 / every_unit = "h" / at = 53376 / at_unit =
 Negative block 1 call 0 | at = -1 / at_unit = "min" / every = 53376 / every_unit = "d"
 Negative block 1 call 0 | every = 53376 / every_unit = "d" / at = -1 / at_unit = "min""#;
 
-#[test]
-fn tells_the_first_fault_of_a_header_with_units(rt: HostRuntime) -> Result<(), Fail> {
-    tells_each(&rt, HEADER_2, HEADERS_OF_TWO_FAULTS)
-}
-
 /// Calls of version 2 with two faults, each in both orders.
-const CALLS_OF_TWO_FAULTS: &str = r#"Missing block 1 call 1 | at_unit = "year" / name = "a"
+pub const TELLS_THE_FIRST_FAULT_OF_A_CALL_WITH_UNITS: &str =
+    r#"Missing block 1 call 1 | at_unit = "year" / name = "a"
 Missing block 1 call 1 | name = "a" / at_unit = "year"
 Missing block 1 call 1 | at_unit = 1 / every_unit = "s"
 Missing block 1 call 1 | every_unit = "s" / at_unit = 1
@@ -120,13 +117,8 @@ UnknownName block 1 call 1 | name = "a" / op = "cancel" / at = 53376 / at_unit =
 Negative block 1 call 1 | op = "schedule" / name = "a" / delay = 53376 / delay_unit = "d" / at = -1 / at_unit = "h"
 Negative block 1 call 1 | at = -1 / at_unit = "h" / op = "schedule" / name = "a" / delay = 53376 / delay_unit = "d""#;
 
-#[test]
-fn tells_the_first_fault_of_a_call_with_units(rt: HostRuntime) -> Result<(), Fail> {
-    tells_each(&rt, CALL_2, CALLS_OF_TWO_FAULTS)
-}
-
 /// Blocks and calls of version 2 behind others.
-const LATER: &str =
+pub const ORDERS_TIMES_OF_DIFFERENT_UNITS: &str =
     r#"BadUnit block 1 call 2 | call = [{ op = "execute", name = "a" }, { op = "execute", name = "a", at_unit = "year" }]
 BadUnit block 1 call 2 | call = [{ op = "execute", name = "a" }, { at_unit = "year", name = "a", op = "execute" }]
 BadUnit block 1 call 2 | call = [{ op = "execute", name = "a" }, { op = "schedule", name = "a", delay = 1, delay_unit = "year" }]
@@ -155,8 +147,3 @@ OutOfOrder block 2 call 0 | times = 2 / every = 1 / every_unit = "d" / call = [{
 plan 2 | times = 2 / every = 1 / every_unit = "d" / call = [{ op = "ask", at = 1, at_unit = "h" }] / [[block]] / at = 25 / at_unit = "h"
 Ambiguous block 2 call 1 | times = 2 / every = 0 / call = [{ op = "execute", name = "a" }] / [[block]] / call = [{ op = "cancel", name = "a", at = -1, at_unit = "h" }]
 BadUnit block 2 call 1 | times = 2 / every = 0 / call = [{ op = "execute", name = "a" }] / [[block]] / call = [{ op = "cancel", name = "a", at_unit = "year" }]"#;
-
-#[test]
-fn orders_times_of_different_units(rt: HostRuntime) -> Result<(), Fail> {
-    tells_each(&rt, HEADER_2, LATER)
-}

@@ -1,125 +1,92 @@
 //! The unit keys of a plan: in version 2 beside each time, also one that is left out, and in version 1 none.
 use super::*;
 
-/// Values of a unit key of version 2, and what is told of each where it may stand.
-const VALUES: [(&str, &str); 19] = [
-    ("\"ns\"", "plan 2"),
-    ("\"us\"", "plan 2"),
-    ("\"ms\"", "plan 2"),
-    ("\"s\"", "plan 2"),
-    ("\"min\"", "plan 2"),
-    ("\"h\"", "plan 2"),
-    ("\"d\"", "plan 2"),
-    ("\"\"", "BadUnit"),
-    ("\"NS\"", "BadUnit"),
-    ("\"m\"", "BadUnit"),
-    ("\"mins\"", "BadUnit"),
-    ("\"hour\"", "BadUnit"),
-    ("\"day\"", "BadUnit"),
-    ("\"D\"", "BadUnit"),
-    ("\" s\"", "BadUnit"),
-    ("1", "WrongType"),
-    ("true", "WrongType"),
-    ("[\"s\"]", "WrongType"),
-    ("{ unit = \"s\" }", "WrongType"),
-];
+/// What is told of each value of a unit key of version 2, where it may stand.
+const VALUES: &str = r#"plan 2 | "ns"
+plan 2 | "us"
+plan 2 | "ms"
+plan 2 | "s"
+plan 2 | "min"
+plan 2 | "h"
+plan 2 | "d"
+BadUnit | ""
+BadUnit | "NS"
+BadUnit | "m"
+BadUnit | "mins"
+BadUnit | "hour"
+BadUnit | "day"
+BadUnit | "D"
+BadUnit | " s"
+WrongType | 1
+WrongType | true
+WrongType | ["s"]
+WrongType | { unit = "s" }"#;
 
 /// The unit keys of times, and the names of other keys with `_unit` behind them.
-const UNIT_KEYS: [&str; 10] = [
-    "at_unit",
-    "every_unit",
-    "delay_unit",
-    "first_unit",
-    "period_unit",
-    "unit",
-    "times_unit",
-    "name_unit",
-    "op_unit",
-    "At_unit",
-];
+const UNIT_KEYS: &str =
+    "at_unit every_unit delay_unit first_unit period_unit unit times_unit name_unit op_unit At_unit";
 
-/// A table: its keys, and the unit keys that it may have in version 2.
-type Tabled<'a> = (&'a str, &'a [&'a str]);
+/// Headers, with their times and without them: the unit keys that they may have in version 2, and their keys.
+const HEADERS: &str = "at_unit every_unit | at = 1 / every = 1
+at_unit every_unit | times = 2 / every = 1
+at_unit every_unit | ";
 
-/// Headers: without their times and with them.
-const HEADERS: [Tabled<'_>; 3] = [
-    ("", &["at_unit", "every_unit"]),
-    ("at = 1\nevery = 1\n", &["at_unit", "every_unit"]),
-    ("times = 2\nevery = 1\n", &["at_unit", "every_unit"]),
-];
-
-/// Calls of each operation, some with their offset and some without it. One call stands before each.
-const CALLS: [Tabled<'_>; 12] = [
-    (
-        "op = \"schedule\"\nname = \"b\"\ndelay = 1\n",
-        &["at_unit", "delay_unit"],
-    ),
-    ("op = \"execute\"\nname = \"b\"\n", &["at_unit"]),
-    (
-        "op = \"rate\"\nname = \"b\"\nfirst = 1\nperiod = 1\n",
-        &["at_unit", "first_unit", "period_unit"],
-    ),
-    (
-        "op = \"fixed\"\nname = \"b\"\nfirst = 1\ndelay = 1\n",
-        &["at_unit", "first_unit", "delay_unit"],
-    ),
-    ("op = \"cancel\"\nname = \"a\"\n", &["at_unit"]),
-    (
-        "op = \"policy\"\nwhich = \"remove\"\nvalue = true\n",
-        &["at_unit"],
-    ),
-    ("op = \"shutdown\"\n", &["at_unit"]),
-    ("op = \"shutdown_now\"\n", &["at_unit"]),
-    ("op = \"ask\"\n", &["at_unit"]),
-    ("op = \"ask\"\nat = 1\n", &["at_unit"]),
-    (
-        "op = \"schedule\"\nname = \"b\"\ndelay = -1\nat = 0\n",
-        &["at_unit", "delay_unit"],
-    ),
-    (
-        "op = \"fixed\"\nname = \"b\"\nfirst = 1\ndelay = 0\nat = 1\n",
-        &["at_unit", "first_unit", "delay_unit"],
-    ),
-];
+/// Calls of each operation, some with their offset and some without it: the unit keys that they may have in version 2, and their
+/// keys. One call stands before each.
+const CALLS: &str = r#"at_unit delay_unit | op = "schedule" / name = "b" / delay = 1
+at_unit | op = "execute" / name = "b"
+at_unit first_unit period_unit | op = "rate" / name = "b" / first = 1 / period = 1
+at_unit first_unit delay_unit | op = "fixed" / name = "b" / first = 1 / delay = 1
+at_unit | op = "cancel" / name = "a"
+at_unit | op = "policy" / which = "remove" / value = true
+at_unit | op = "shutdown"
+at_unit | op = "shutdown_now"
+at_unit | op = "ask"
+at_unit | op = "ask" / at = 1
+at_unit delay_unit | op = "schedule" / name = "b" / delay = -1 / at = 0
+at_unit first_unit delay_unit | op = "fixed" / name = "b" / first = 1 / delay = 0 / at = 1"#;
 
 /// What stands before the second call of a plan's only block.
 const SECOND_CALL: &str =
     "[[block]]\n[[block.call]]\nop = \"execute\"\nname = \"a\"\n[[block.call]]\n";
 
-/// What is told of a text that has this fault at a place, or is a plan.
-fn told_at(alloc: Global, kind: &str, place: &str) -> Result<String, Fail> {
-    if kind == "plan 2" {
-        return Ok(String::from_str(alloc, kind)?);
-    }
-    Ok(format!(in alloc; "{kind} {place}")?)
-}
-
-/// Checks what is told of a table that has a value at a unit key.
-fn tells_unit(
+/// Checks what is told of a table, at a place, that has each value at a unit key, which may or may not stand there.
+fn tells_values(
     rt: &(impl AllocGlobal + Abort),
     front: &str,
     place: &str,
     key: &str,
-    value: &str,
-    kind: &str,
+    is_own: bool,
 ) -> Result<(), Fail> {
-    let text = format!(in rt.alloc(); "{front}{key} = {value}\n")?;
-    let fault = told_at(rt.alloc(), kind, place)?;
-    tells_of(rt, &[(text.as_str(), fault.as_str())])
+    for row in VALUES.lines() {
+        let (kind, value) = row.split_once(" | ").ok_or("no value")?;
+        let kind = if is_own { kind } else { "UnknownKey" };
+        let fault = if kind == "plan 2" {
+            String::from_str(rt.alloc(), kind)?
+        } else {
+            format!(in rt.alloc(); "{kind} {place}")?
+        };
+        let text = format!(in rt.alloc(); "{front}{key} = {value}\n")?;
+        tells(rt, text.as_str(), fault.as_str())?;
+    }
+    Ok(())
 }
 
-/// Checks what is told of a table by what stands at each unit key, where it may have these.
+/// Checks what is told of each table of a list by what stands at each unit key, where it may have its own or none.
 fn tells_units(
     rt: &(impl AllocGlobal + Abort),
     front: &str,
     place: &str,
-    own: &[&str],
+    tables: &str,
+    has_own: bool,
 ) -> Result<(), Fail> {
-    for key in UNIT_KEYS {
-        let is_own = own.iter().any(|other| *other == key);
-        for (value, kind) in VALUES {
-            let kind = if is_own { kind } else { "UnknownKey" };
-            tells_unit(rt, front, place, key, value, kind)?;
+    for table in tables.lines() {
+        let (own, keys) = table.split_once(" | ").ok_or("no keys")?;
+        let keys = spelled(rt.alloc(), keys)?;
+        let front = format!(in rt.alloc(); "{front}{keys}\n")?;
+        for key in UNIT_KEYS.split(' ') {
+            let is_own = has_own && own.split(' ').any(|other| other == key);
+            tells_values(rt, front.as_str(), place, key, is_own)?;
         }
     }
     Ok(())
@@ -127,33 +94,23 @@ fn tells_units(
 
 #[test]
 fn a_header_of_version_2_has_a_unit_for_each_time(rt: HostRuntime) -> Result<(), Fail> {
-    for (keys, own) in HEADERS {
-        let front = format!(in rt.alloc(); "{HEADER_2}{keys}")?;
-        tells_units(&rt, front.as_str(), "block 1 call 0", own)?;
-    }
-    Ok(())
+    tells_units(&rt, HEADER_2, "block 1 call 0", HEADERS, true)
 }
 
 #[test]
 fn a_call_of_version_2_has_a_unit_for_each_time(rt: HostRuntime) -> Result<(), Fail> {
-    for (keys, own) in CALLS {
-        let front = format!(in rt.alloc(); "version = 2\n{SECOND_CALL}{keys}")?;
-        tells_units(&rt, front.as_str(), "block 1 call 2", own)?;
-    }
-    Ok(())
+    let front = format!(in rt.alloc(); "version = 2\n{SECOND_CALL}")?;
+    tells_units(&rt, front.as_str(), "block 1 call 2", CALLS, true)
 }
 
 #[test]
 fn a_call_of_version_1_has_no_unit(rt: HostRuntime) -> Result<(), Fail> {
-    for (keys, _) in CALLS {
-        let front = format!(in rt.alloc(); "version = 1\n{SECOND_CALL}{keys}")?;
-        tells_units(&rt, front.as_str(), "block 1 call 2", &[])?;
-    }
-    Ok(())
+    let front = format!(in rt.alloc(); "version = 1\n{SECOND_CALL}")?;
+    tells_units(&rt, front.as_str(), "block 1 call 2", CALLS, false)
 }
 
 /// Headers of version 1: its one unit, which is none of the longer ones, and the unit keys of version 2.
-const FIRST_HEADERS: &str = r#"plan | unit = "ns"
+pub const A_HEADER_OF_VERSION_1_HAS_ONE_UNIT: &str = r#"plan | unit = "ns"
 plan | unit = "us"
 plan | unit = "ms"
 plan | unit = "s"
@@ -172,8 +129,3 @@ UnknownKey block 1 call 0 | unit = 1 / every_unit = "s"
 UnknownKey block 1 call 0 | delay_unit = "s"
 UnknownKey block 1 call 0 | first_unit = "s"
 UnknownKey block 1 call 0 | period_unit = "s""#;
-
-#[test]
-fn a_header_of_version_1_has_one_unit(rt: HostRuntime) -> Result<(), Fail> {
-    tells_each(&rt, HEADER, FIRST_HEADERS)
-}

@@ -1,8 +1,8 @@
 //! Texts that are no trace of a plan, beside some that are one.
-use super::plans::{
-    A_SWEEP, NO_OVERLAP_TRACE, ONE_DELAY, STOPPED, STOPPED_AGAIN, TWO_WORKERS, TWO_WORKERS_TRACE,
-};
 use super::*;
+use rows::runs::{NO_OVERLAP, ONE_DELAY, TWO_WORKERS};
+use rows::shutdown::A_SWEEP;
+use rows::stopping::{A_SHUTDOWN_AT_ONCE, A_SHUTDOWN_AT_ONCE_AFTER_A_SHUTDOWN};
 
 /// A plan without calls.
 const EMPTY: &str = "version = 1";
@@ -63,26 +63,30 @@ fn another_line(rt: HostRuntime) -> Result<(), Fail> {
         "5 start 0 idle\n",
     ] {
         assert_eq!(rt;
-            found(&rt, ONE_DELAY, &[front, line, end])?,
+            found(&rt, ONE_DELAY.plan, &[front, line, end])?,
             Finding::Breaks(7),
             "{line}"
         );
     }
     let start = "5 start 0 task 0 run 0 due 5\n";
     assert_eq!(rt;
-        found(&rt, ONE_DELAY, &[front, start, "5 error busy\n", end])?,
+        found(&rt, ONE_DELAY.plan, &[front, start, "5 error busy\n", end])?,
         Finding::Conforms
     );
     assert_eq!(rt;
-        found(&rt, ONE_DELAY, &[front, start, "5 error not running\n"])?,
+        found(
+            &rt,
+            ONE_DELAY.plan,
+            &[front, start, "5 error not running\n"]
+        )?,
         Finding::Breaks(8)
     );
     assert_eq!(rt;
-        found(&rt, ONE_DELAY, &[front, start, end, "5 error busy\n"])?,
+        found(&rt, ONE_DELAY.plan, &[front, start, end, "5 error busy\n"])?,
         Finding::Breaks(9)
     );
     assert_eq!(rt;
-        found(&rt, ONE_DELAY, &[front, start, end, end])?,
+        found(&rt, ONE_DELAY.plan, &[front, start, end, end])?,
         Finding::Breaks(9)
     );
     Ok(())
@@ -91,10 +95,13 @@ fn another_line(rt: HostRuntime) -> Result<(), Fail> {
 /// A clock that jumps past a call, and a call past the last one.
 #[test]
 fn calls_are_made_in_time(rt: HostRuntime) -> Result<(), Fail> {
-    assert_eq!(rt; found(&rt, ONE_DELAY, &["0 clock\n"])?, Finding::Breaks(1));
+    assert_eq!(rt;
+        found(&rt, ONE_DELAY.plan, &["0 clock\n"])?,
+        Finding::Breaks(1)
+    );
     let submit = "0 submit 0 schedule due 5\n";
     assert_eq!(rt;
-        found(&rt, ONE_DELAY, &[submit, submit])?,
+        found(&rt, ONE_DELAY.plan, &[submit, submit])?,
         Finding::Breaks(2)
     );
     Ok(())
@@ -118,7 +125,11 @@ fn ends_of_tasks(rt: HostRuntime) -> Result<(), Fail> {
         ("5 end 1\n5 end 2\n5 end 0\n", Finding::Breaks(8)),
         ("6 end 1\n5 end 2\n", Finding::Breaks(6)),
     ] {
-        assert_eq!(rt; found(&rt, A_SWEEP, &[front, ends])?, finding, "{ends}");
+        assert_eq!(rt;
+            found(&rt, A_SWEEP.plan, &[front, ends])?,
+            finding,
+            "{ends}"
+        );
     }
     Ok(())
 }
@@ -160,7 +171,11 @@ fn ends_of_a_shutdown_at_once(rt: HostRuntime) -> Result<(), Fail> {
             Finding::Breaks(11),
         ),
     ] {
-        assert_eq!(rt; found(&rt, STOPPED, &[front, lines])?, finding, "{lines}");
+        assert_eq!(rt;
+            found(&rt, A_SHUTDOWN_AT_ONCE.plan, &[front, lines])?,
+            finding,
+            "{lines}"
+        );
     }
     Ok(())
 }
@@ -194,7 +209,7 @@ fn lines_after_a_shutdown_at_once(rt: HostRuntime) -> Result<(), Fail> {
         (asked, "4 submit 4 schedule due 4\n", Finding::Breaks(14)),
         (asked, "4 refuse 4 illegal\n", Finding::Breaks(14)),
     ] {
-        let found = found(&rt, STOPPED, &[front, asked, set, last])?;
+        let found = found(&rt, A_SHUTDOWN_AT_ONCE.plan, &[front, asked, set, last])?;
         assert_eq!(rt; found, finding, "{asked}{last}");
     }
     Ok(())
@@ -229,7 +244,11 @@ fn shutdowns_of_both_kinds(rt: HostRuntime) -> Result<(), Fail> {
     ] {
         let [first, second] = lines;
         assert_eq!(rt;
-            found(&rt, STOPPED_AGAIN, &[front, first, second])?,
+            found(
+                &rt,
+                A_SHUTDOWN_AT_ONCE_AFTER_A_SHUTDOWN.plan,
+                &[front, first, second]
+            )?,
             finding,
             "{first}{second}"
         );
@@ -240,17 +259,11 @@ fn shutdowns_of_both_kinds(rt: HostRuntime) -> Result<(), Fail> {
 /// A worker that waits is named by the least number.
 #[test]
 fn two_workers(rt: HostRuntime) -> Result<(), Fail> {
-    for (workers, trace, finding) in [
-        (2, TWO_WORKERS_TRACE, Finding::Conforms),
-        (1, TWO_WORKERS_TRACE, Finding::Breaks(5)),
-        (2, NO_OVERLAP_TRACE, Finding::Conforms),
-        (1, NO_OVERLAP_TRACE, Finding::Breaks(5)),
-    ] {
-        assert_eq!(rt;
-            checked(&rt, TWO_WORKERS, workers, trace.as_bytes())?,
-            Ok(finding),
-            "{workers}: {trace}"
-        );
+    for row in [TWO_WORKERS, NO_OVERLAP] {
+        for (workers, finding) in [(2, Finding::Conforms), (1, Finding::Breaks(5))] {
+            let found = found_by(&rt, row.plan, workers, &[row.trace])?;
+            assert_eq!(rt; found, finding, "{workers}: {}", row.name);
+        }
     }
     Ok(())
 }

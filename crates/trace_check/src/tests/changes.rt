@@ -5,15 +5,16 @@ ghost use Rattle.queue_code.specs.Calls.{IsPlanned};
 ghost use Rattle.queue_code.specs.Codes.{calls_of};
 
 use super::plainly::plain_finding;
-use super::plans::{
-    A_CANCEL_OF_A_RUN, A_CANCEL_OF_A_RUN_TRACE, A_SWEEP, A_SWEEP_TRACE, AN_ENDED_RUN,
-    AN_ENDED_RUN_TRACE, ERRORS, ERRORS_TRACE, POLICIES, POLICIES_TRACE, STOPPED, STOPPED_AGAIN,
-    STOPPED_AGAIN_TRACE, STOPPED_TRACE, TWO_WORKERS, TWO_WORKERS_TRACE,
-};
 use super::*;
 use plan_compile::compile;
 use plan_read::Plan;
 use queue_code::{Code, CodeCall, Cursor};
+use rows::Row;
+use rows::cancels::A_CANCEL_OF_A_RUN;
+use rows::policies::POLICIES_THAT_SWEEP;
+use rows::runs::{ERRORS, TWO_WORKERS};
+use rows::shutdown::{A_SWEEP, AN_ENDED_RUN};
+use rows::stopping::{A_SHUTDOWN_AT_ONCE, A_SHUTDOWN_AT_ONCE_AFTER_A_SHUTDOWN};
 use sched_time::{Timing, Unit, Which, span};
 use std::alloc::{AllocError, Allocator, Global};
 
@@ -172,17 +173,16 @@ fn finds_line_changes(
     Ok(())
 }
 
-/// Checks a trace and the texts that differ from it at one place, of which this many that differ by one byte conform. The calls
-/// are those of the plan, written out.
+/// Checks the trace of a row and the texts that differ from it at one place, of which this many that differ by one byte conform.
+/// The calls are those of the plan, written out.
 fn finds_changes(
     rt: &(impl AllocGlobal + Abort),
-    plan: &str,
+    row: &Row,
     calls: &[(u64, CodeCall)],
-    workers: u8,
-    trace: &str,
     conforming: usize,
 ) -> Result<(), Fail> {
-    let plan = read_plan(rt.alloc(), plan.as_bytes())?;
+    let (workers, trace) = (row.workers, row.trace);
+    let plan = read_plan(rt.alloc(), row.plan.as_bytes())?;
     let code = compile(rt.alloc(), &plan)?;
     let made = made_by(rt.alloc(), &code)?;
     assert!(rt; code.calls() as usize == calls.len() && made.as_slice() == calls);
@@ -198,7 +198,7 @@ fn finds_changes(
 }
 
 /// The calls that a code makes, one after the other.
-fn made_by<A: Allocator + Copy>(
+pub fn made_by<A: Allocator + Copy>(
     alloc: A,
     code: &Code<A>,
 ) -> Result<Vec<(u64, CodeCall), A>, AllocError>
@@ -236,7 +236,7 @@ fn of_a_sweep(rt: HostRuntime) -> Result<(), Fail> {
         (6, CodeCall::Shutdown),
         (6, CodeCall::Ask),
     ];
-    finds_changes(&rt, A_SWEEP, &calls, 1, A_SWEEP_TRACE, 2)
+    finds_changes(&rt, &A_SWEEP, &calls, 2)
 }
 
 /// The last clock may show 9 as well, and 44.
@@ -254,7 +254,7 @@ fn of_policies_that_sweep(rt: HostRuntime) -> Result<(), Fail> {
         (4, set(Which::Continue, false)),
         (4, CodeCall::Ask),
     ];
-    finds_changes(&rt, POLICIES, &calls, 1, POLICIES_TRACE, 2)
+    finds_changes(&rt, &POLICIES_THAT_SWEEP, &calls, 2)
 }
 
 /// The last clock may show 9 as well, and 44.
@@ -271,7 +271,7 @@ fn of_a_shutdown_at_once(rt: HostRuntime) -> Result<(), Fail> {
         (3, set(Which::Continue, true)),
         (4, submit(4, Timing::Once, 0)),
     ];
-    finds_changes(&rt, STOPPED, &calls, 1, STOPPED_TRACE, 2)
+    finds_changes(&rt, &A_SHUTDOWN_AT_ONCE, &calls, 2)
 }
 
 /// The last clock may show 9 as well, and 33.
@@ -285,7 +285,7 @@ fn of_shutdowns_of_both_kinds(rt: HostRuntime) -> Result<(), Fail> {
         (3, CodeCall::Shutdown),
         (3, CodeCall::ShutdownNow),
     ];
-    finds_changes(&rt, STOPPED_AGAIN, &calls, 1, STOPPED_AGAIN_TRACE, 2)
+    finds_changes(&rt, &A_SHUTDOWN_AT_ONCE_AFTER_A_SHUTDOWN, &calls, 2)
 }
 
 #[test]
@@ -296,32 +296,25 @@ fn of_an_ended_run(rt: HostRuntime) -> Result<(), Fail> {
         (2, set(Which::Continue, true)),
         (9, set(Which::Continue, false)),
     ];
-    finds_changes(&rt, AN_ENDED_RUN, &calls, 1, AN_ENDED_RUN_TRACE, 0)
+    finds_changes(&rt, &AN_ENDED_RUN, &calls, 0)
 }
 
 #[test]
 fn of_a_cancel_from_outside(rt: HostRuntime) -> Result<(), Fail> {
     let calls = [(0, submit(0, Timing::Rate(span(5, Unit::Ns)?), 0))];
-    finds_changes(
-        &rt,
-        A_CANCEL_OF_A_RUN,
-        &calls,
-        1,
-        A_CANCEL_OF_A_RUN_TRACE,
-        0,
-    )
+    finds_changes(&rt, &A_CANCEL_OF_A_RUN, &calls, 0)
 }
 
 /// The value 2 may be 0, 9 and 22 as well.
 #[test]
 fn of_errors(rt: HostRuntime) -> Result<(), Fail> {
     let calls = [(0, submit(0, Timing::Once, 0))];
-    finds_changes(&rt, ERRORS, &calls, 1, ERRORS_TRACE, 3)
+    finds_changes(&rt, &ERRORS, &calls, 3)
 }
 
 /// The last run may be worker 0's as well.
 #[test]
 fn of_two_workers(rt: HostRuntime) -> Result<(), Fail> {
     let calls = [(0, submit(0, Timing::Rate(span(10, Unit::Ns)?), 10))];
-    finds_changes(&rt, TWO_WORKERS, &calls, 2, TWO_WORKERS_TRACE, 1)
+    finds_changes(&rt, &TWO_WORKERS, &calls, 1)
 }

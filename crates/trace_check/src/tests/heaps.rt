@@ -1,8 +1,8 @@
 //! Checks with little memory, over heaps of fixed size.
-use super::plans::{A_SWEEP, A_SWEEP_TRACE};
 use super::*;
 use linked_list_allocator::LocalHeap;
 use plan_read::Plan;
+use rows::shutdown::A_SWEEP;
 use std::alloc::Global;
 
 /// What a check over a heap answers; all memory is given back.
@@ -40,7 +40,7 @@ fn refuses_or_finds(
     text: &str,
     finding: Finding,
 ) -> Result<(), Fail> {
-    let plan = read_plan(rt.alloc(), A_SWEEP.as_bytes())?;
+    let plan = read_plan(rt.alloc(), A_SWEEP.plan.as_bytes())?;
     let mut refused = 0u32;
     let mut found = 0u32;
     for step in 0..200usize {
@@ -57,6 +57,6 @@ fn refuses_or_finds(
 
 #[test]
 fn a_check_without_memory_finds_nothing(rt: HostRuntime) -> Result<(), Fail> {
-    refuses_or_finds(&rt, A_SWEEP_TRACE, Finding::Conforms)?;
+    refuses_or_finds(&rt, A_SWEEP.trace, Finding::Conforms)?;
     refuses_or_finds(&rt, "0 policy execute false\n0 clock\n", Finding::Breaks(2))
 }

@@ -1,4 +1,5 @@
 use Rattle.std.proofs.Common.{drop}
+use Rattle.std.specs.Prelude.{IfOk}
 use Rattle.executor_core.specs.CoreView.{workers_of}
 use Rattle.plan_compile.specs.PlanCalls.{calls_of_plan}
 use Rattle.trace_check.specs.Findings.{Finds}
@@ -15,4 +16,4 @@ run-requires-clause-stands g c =
 pub returns-clause-finds : goal.returns-clause-finds
 returns-clause-finds g c =
     let made = c.in_ok-checker.checker in
-    moved (λ calls workers. Finds calls workers c.args.text.now c.run.result) made.core.calls (calls_of_plan c.args.plan.now) (workers_of made.core) c.args.workers c.in_ok-checker.ensures.core.calls c.in_ok-checker.ensures.core.count c.run.ensures
+    moved (λ calls workers. IfOk c.run.result (λ f. Finds calls workers c.args.text.now f)) made.core.calls (calls_of_plan c.args.plan.now) (workers_of made.core) c.args.workers c.in_ok-checker.ensures.core.calls c.in_ok-checker.ensures.core.count c.run.ensures.finds

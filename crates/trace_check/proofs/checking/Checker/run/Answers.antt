@@ -1,4 +1,4 @@
-use Rattle.std.proofs.Common.{◌+◌, ◌<◌, [], ◌∷◌, drop, length, arith, refl, sym, ap, ◌∙◌}
+use Rattle.std.proofs.Common.{◌+◌, ◌<◌, [], ◌∷◌, drop, length, arith, refl, sym, ap, ◌∙◌, subst}
 use Rattle.std.proofs.lemmas.List.{length-drop}
 use Rattle.executor_core.specs.CoreView.{workers_of, state_of}
 use Rattle.trace_text.proofs.LineTexts.{first_line}
@@ -7,6 +7,7 @@ use Rattle.trace_check.specs.Findings.{Conforms, Breaks}
 use Rattle.trace_check.specs.own.Standing.{IsAt}
 use Rattle.trace_check.proofs.Texts.{HasCome, stops_unread, stops_refused, stops_owing, ends_whole, comes_on, shorter, moved, some_left, none_left}
 use Rattle.trace_check.proofs.Taking.{owed_none}
+use Rattle.trace_check.proofs.Keeping.{AreKept, keeps_none, keeps_on, kept_before, kept_whole}
 use Rattle.trace_check.proofs.checking.Checker.run.Goals as goal
 
 pub loop-rest-init : goal.loop-rest-init
@@ -20,18 +21,19 @@ loop-rest-init g c =
       ready = c.requires.ready;
       come = record { lines = []; count = refl; fit = tt; spelled = refl; stands = c.requires.stands };
       few = omega arith;
+      kept = λ keep. keeps_none c.args.text.now c.args.lines.now.items c.requires.none;
     }
 
-pub returns-in_default : goal.returns-in_default
-returns-in_default g c =
+pub returns-in_default-clause-finds : goal.returns-in_default-clause-finds
+returns-in_default-clause-finds g c =
     let self = c.loop-rest.self in
     moved (λ calls workers. Breaks calls workers c.args.text.now (c.loop-rest.count + 1)) self.core.calls c.args.self.now.core.calls (workers_of self.core) (workers_of c.args.self.now.core)
     c.loop-rest.invariant.calls c.loop-rest.invariant.workers
     (stops_unread self.core.calls (workers_of self.core) c.args.text.now c.loop-rest.rest.now c.loop-rest.count (state_of self.core) (drop self.met self.out.items) self.busy.flags first_line line_ended c.loop-rest.invariant.come
     (some_left c.loop-rest.rest.now (sym c.is_empty.ensures ∙ c.loop-rest-test.true)) c.in_default.ensures)
 
-pub returns-then-not-take : goal.returns-then-not-take
-returns-then-not-take g c =
+pub returns-then-not-take-clause-finds : goal.returns-then-not-take-clause-finds
+returns-then-not-take-clause-finds g c =
     let self = c.loop-rest.self in
     moved (λ calls workers. Breaks calls workers c.args.text.now (c.loop-rest.count + 1)) self.core.calls c.args.self.now.core.calls (workers_of self.core) (workers_of c.args.self.now.core)
     c.loop-rest.invariant.calls c.loop-rest.invariant.workers
@@ -56,6 +58,8 @@ loop-rest-preserved g c =
           (λ lines at. moved (λ calls workers. IsAt calls workers (state_of new.core) (drop new.met new.out.items) new.busy.flags (c.in-Some.found.0 ∷ lines))
           new.core.calls self.core.calls (workers_of new.core) (workers_of self.core) c.take.ensures.calls c.take.ensures.workers (c.take.ensures.goes c.if-not-take.false lines at)));
       few = omega (arith, less, c.loop-rest.invariant.few);
+      kept = λ keep. subst (AreKept c.args.text.now c.in-Some.found.1.now (c.loop-rest.count + 1)) (sym (c.in_ok-keep.ensures.kept keep))
+          (keeps_on c.args.text.now c.loop-rest.rest.now c.in-Some.found.1.now c.loop-rest.count c.loop-rest.lines.items c.in-Some.found.0 (c.loop-rest.invariant.kept keep) c.in-Some.ensures.0 c.in-Some.ensures.1);
     }
 
 pub loop-rest-smaller : goal.loop-rest-smaller
@@ -65,8 +69,8 @@ pub take-requires-clause-some : goal.take-requires-clause-some
 take-requires-clause-some g c =
     omega (arith, c.loop-rest.invariant.taken, c.loop-rest.invariant.limit, c.requires.limit, c.loop-rest.invariant.few, c.requires.size)
 
-pub returns-then-self-len : goal.returns-then-self-len
-returns-then-self-len g c =
+pub returns-then-self-len-clause-finds : goal.returns-then-self-len-clause-finds
+returns-then-self-len-clause-finds g c =
     let self = c.loop-rest.self in
     let within : self.met < length self.out.items = omega (arith, c.if-self-len.true, c.len.ensures) in
     moved (λ calls workers. Breaks calls workers c.args.text.now (c.loop-rest.count + 1)) self.core.calls c.args.self.now.core.calls (workers_of self.core) (workers_of c.args.self.now.core)
@@ -74,10 +78,23 @@ returns-then-self-len g c =
     (stops_owing self.core.calls (workers_of self.core) c.args.text.now c.loop-rest.rest.now c.loop-rest.count (state_of self.core) (drop self.met self.out.items) self.busy.flags first_line line_ended c.loop-rest.invariant.come
     (none_left c.loop-rest.rest.now (sym c.is_empty.ensures ∙ c.loop-rest-test.false)) (λ none. omega (arith, within, ap length none, length-drop self.met self.out.items)))
 
-pub returns : goal.returns
-returns g c =
+pub returns-clause-finds : goal.returns-clause-finds
+returns-clause-finds g c =
     let self = c.loop-rest.self in
     moved (λ calls workers. Conforms calls workers c.args.text.now) self.core.calls c.args.self.now.core.calls (workers_of self.core) (workers_of c.args.self.now.core)
     c.loop-rest.invariant.calls c.loop-rest.invariant.workers
     (ends_whole self.core.calls (workers_of self.core) c.args.text.now c.loop-rest.rest.now c.loop-rest.count (state_of self.core) (drop self.met self.out.items) self.busy.flags c.loop-rest.invariant.come
     (none_left c.loop-rest.rest.now (sym c.is_empty.ensures ∙ c.loop-rest-test.false)) (owed_none self.out.items self.met (omega (arith, c.if-self-len.false, c.len.ensures))))
+
+pub returns-in_default-clause-lines : goal.returns-in_default-clause-lines
+returns-in_default-clause-lines g c = λ keep. kept_before c.args.text.now c.loop-rest.rest.now c.loop-rest.count c.loop-rest.lines.items (c.loop-rest.invariant.kept keep)
+
+pub returns-then-not-take-clause-lines : goal.returns-then-not-take-clause-lines
+returns-then-not-take-clause-lines g c = λ keep. kept_before c.args.text.now c.loop-rest.rest.now c.loop-rest.count c.loop-rest.lines.items (c.loop-rest.invariant.kept keep)
+
+pub returns-then-self-len-clause-lines : goal.returns-then-self-len-clause-lines
+returns-then-self-len-clause-lines g c = λ keep. kept_before c.args.text.now c.loop-rest.rest.now c.loop-rest.count c.loop-rest.lines.items (c.loop-rest.invariant.kept keep)
+
+pub returns-clause-lines : goal.returns-clause-lines
+returns-clause-lines g c =
+    λ keep. kept_whole c.args.text.now c.loop-rest.rest.now c.loop-rest.count c.loop-rest.lines.items (c.loop-rest.invariant.kept keep) (none_left c.loop-rest.rest.now (sym c.is_empty.ensures ∙ c.loop-rest-test.false))

@@ -1,7 +1,7 @@
 use Rattle.std.specs.Prelude.{codes}
 use Rattle.trace_text.specs.Spelling.{kind_text}
 use Rattle.trace_text.proofs.Chains.{next, next_three}
-use Rattle.trace_text.proofs.answer_text.put_submit.Goals as goal
+use Rattle.trace_text.proofs.answer_text.put_submit_here.Goals as goal
 
 pub returns-clause-put : goal.returns-clause-put
 returns-clause-put c =
