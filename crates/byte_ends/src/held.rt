@@ -22,13 +22,13 @@ pub enum Filled {
 /// The bytes of a source that were read and not taken yet, at most [`PIECE`].
 /// Contracts see the list of them.
 #[derive(Drop)]
-pub struct Held<A: Allocator> {
+pub struct HeldBytes<A: Allocator> {
     buffer: Vec<u8, A>,
     from: usize,
     to: usize,
 }
 
-impl<A: Allocator> Model for Held<A> {
+impl<A: Allocator> Model for HeldBytes<A> {
     ghost use Rattle.std.specs.Prelude.{◌≡◌, ◌≤◌, List, ℕ, slice_range, vec_len};
     ghost use Rattle.byte_ends.specs.declared.held.TheConstants.{PIECE};
 
@@ -39,12 +39,12 @@ impl<A: Allocator> Model for Held<A> {
     ghost invariant = { λ h. (h.from ≤ h.to) × (h.to ≤ vec_len h.buffer) × (vec_len h.buffer ≡ PIECE) };
 }
 
-impl<A: Allocator> Held<A> {
+impl<A: Allocator> HeldBytes<A> {
     /// Holds nothing yet.
-    pub fn new(alloc: A) -> Result<Held<A>, AllocError>
+    pub fn new(alloc: A) -> Result<HeldBytes<A>, AllocError>
         ensures { IfOk result (λ h. h ≡ []) }
     {
-        Ok(Held {
+        Ok(HeldBytes {
             buffer: Vec::from_elem(alloc, 0u8, PIECE)?,
             from: 0,
             to: 0,

@@ -2,34 +2,34 @@
 //!
 //! # Usage
 //!
-//! ```text
-//! let mut source = Reading::new(rt.stdin());
-//! let mut held = Held::new(rt.alloc())?;
-//! while held.fill(&mut source) == Filled::More {
-//!     let line = held.bytes().iter().position(|byte| *byte == b'\n');
-//!     // ..
-//! }
-//! let mut sink = Writing::new(rt.stdout());
-//! let whole = write_text(&mut sink, b"5 clock\n"); // false: the sink is at fault
+//! ```rust
+//! let mut source = Pieces::new(b"5 clock\n", 7); // in place of `Reading::new(rt.stdin())`
+//! let mut held = HeldBytes::new(alloc)?;
+//! assert_eq!(rt; held.fill(&mut source), Filled::More);
+//! assert_eq!(rt; held.bytes(), b"5 clock".as_slice()); // the 7 bytes of one read
+//!
+//! let mut sink = Writing::new(Vec::new(alloc)); // in place of `Writing::new(rt.stdout())`
+//! assert!(rt; write_text(&mut sink, held.bytes())); // false: the sink is at fault
+//! assert_eq!(rt; sink.into_inner().as_slice(), b"5 clock".as_slice());
 //! ```
 //!
 //! [`Reading`] and [`Writing`] make a [`Source`] and a [`Sink`] of std's readers and writers, [`Pieces`] a source of bytes in
-//! memory. [`Held`] keeps what was read and not taken yet, at most 64 KiB.
+//! memory. [`HeldBytes`] keeps what was read and not taken yet, at most 64 KiB.
 //!
 //! # Errors
 //!
 //! A read or write that fails by `Interrupted` did nothing, and is tried again. The 1,000th of them in a row is a fault of that end;
 //! one that does something sets the count back. Any other fault is told at once, and so is a write that takes nothing. An end at
 //! fault is not called again by the same call. [`read_some`] and [`write_some`] are such tries, [`write_text`] writes a whole text by
-//! them, and [`Held::fill`] is one read.
+//! them, and [`HeldBytes::fill`] is one read.
 //!
 //! | Call | At a fault | What was done |
 //! |---|---|---|
 //! | [`read_some`] | `None` | nothing was consumed |
 //! | [`write_some`] | `None` | nothing was appended |
 //! | [`write_text`] | `false` | a front of the text was appended |
-//! | [`Held::fill`] | [`Filled::Fault`] | nothing changed |
-//! | [`Held::new`] | `AllocError` | nothing |
+//! | [`HeldBytes::fill`] | [`Filled::Fault`] | nothing changed |
+//! | [`HeldBytes::new`] | `AllocError` | nothing |
 //!
 //! # What contracts see
 //!
@@ -38,12 +38,12 @@
 //!
 //! # Memory and cost
 //!
-//! [`Held`] takes a buffer of 64 KiB, once. A refill moves what is held to its front, and reads once behind it. Nothing else takes
+//! [`HeldBytes`] takes a buffer of 64 KiB, once. A refill moves what is held to its front, and reads once behind it. Nothing else takes
 //! memory.
 //!
 //! # Tests
 //!
-//! They stand in `src/tests.rt`.
+//! They stand in `src/tests.rt`, and the lines above in `src/tests/usage.rt`.
 #![tactic(auto)]
 
 mod ends;
@@ -57,7 +57,7 @@ mod tests;
 mod writers;
 
 pub use ends::{Sink, Source, read_some, write_some, write_text};
-pub use held::{Filled, Held, PIECE};
+pub use held::{Filled, HeldBytes, PIECE};
 pub use laws::filled_equality_tells;
 pub use memory::Pieces;
 pub use readers::Reading;

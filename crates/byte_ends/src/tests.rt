@@ -1,7 +1,9 @@
+mod usage;
+
 ghost use Rattle.std.specs.Prelude.{◌≡◌, ◌≤◌, ◌++◌, ℕ, List, take, IfOk, IfSome};
 
 use crate::ends::{Sink, Source, read_some, write_text};
-use crate::held::{Filled, Held};
+use crate::held::{Filled, HeldBytes};
 use crate::memory::Pieces;
 use crate::readers::Reading;
 use crate::writers::Writing;
@@ -136,7 +138,7 @@ fn tries_an_interrupt_again(rt: HostRuntime) {
 /// Takes the line in front of what is held, and adds its size, or else holds more; answers whether none is left.
 fn take_or_fill(
     source: &mut Pieces<'_>,
-    held: &mut Held<Global>,
+    held: &mut HeldBytes<Global>,
     sizes: &mut Vec<usize>,
 ) -> Result<bool, Fail> {
     if let Some(end) = held.bytes().iter().position(|byte| *byte == b'\n') {
@@ -150,7 +152,7 @@ fn take_or_fill(
 /// Takes the lines of a source in at most 40 steps, and adds the size of each.
 fn take_all(
     source: &mut Pieces<'_>,
-    held: &mut Held<Global>,
+    held: &mut HeldBytes<Global>,
     sizes: &mut Vec<usize>,
 ) -> Result<(), Fail> {
     for _ in 0..40u32 {
@@ -164,7 +166,7 @@ fn take_all(
 /// Holds a text of two lines in pieces of at most so many bytes, and takes both.
 fn holds(rt: &(impl AllocGlobal + Abort), most: usize) -> Result<(), Fail> {
     let mut source = Pieces::new(b"start 1\nclock 22\n", most);
-    let mut held = Held::new(rt.alloc())?;
+    let mut held = HeldBytes::new(rt.alloc())?;
     let mut sizes = Vec::new(rt.alloc());
     take_all(&mut source, &mut held, &mut sizes)?;
     assert!(rt; sizes.as_slice() == [8, 9].as_slice());
@@ -182,7 +184,7 @@ fn holds_pieces(rt: HostRuntime) -> Result<(), Fail> {
 
 /// Whether there is memory to hold a piece.
 fn is_room(alloc: impl Allocator) -> bool {
-    Held::new(alloc).is_ok()
+    HeldBytes::new(alloc).is_ok()
 }
 
 #[test]

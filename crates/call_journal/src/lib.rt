@@ -4,14 +4,15 @@
 //!
 //! ```rust
 //! let mut journal = Journal::new(alloc, true);
-//! journal.make_room()?;                                              // before the call is made
-//! journal.note(MadeCall { moment: 7, call: CallLine::Schedule(5) }); // once it is made
-//! journal.make_room()?;
-//! journal.note(MadeCall { moment: 9, call: CallLine::Cancel(0) });
-//! journal.calls();                                                   // both
-//! journal.is_over();                                                 // false
-//! let text = plan_text(alloc, journal.calls())?;                     // "version = 2\n\n[[block]]\n.."
-//! let plan = read_plan(alloc, text.as_bytes())?;                     // of `plan_read`: one block of two calls
+//! let call = CallLine::Schedule(5);
+//! journal.make_room()?; // before the call is made
+//! journal.note(MadeCall { moment: 7, call }); // once it is made
+//! assert_eq!(rt; (journal.calls().len(), journal.is_over()), (1, false));
+//!
+//! let text = plan_text(alloc, journal.calls())?;
+//! assert!(rt; text.starts_with("version = 2\n\n[[block]]\n"));
+//! let plan = read_plan(alloc, text.as_bytes())?; // of `plan_read`
+//! assert_eq!(rt; plan.blocks().len(), 1);
 //! ```
 //!
 //! # Behaviour

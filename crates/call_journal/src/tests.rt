@@ -26,23 +26,20 @@ fn note_asks<A: Allocator>(journal: &mut Journal<A>, count: u64) -> Result<(), F
 }
 
 #[test]
-fn the_lines_of_the_page(rt: HostRuntime) -> Result<(), Fail> {
+fn the_page_is_run(rt: HostRuntime) -> Result<(), Fail> {
     let alloc = rt.alloc();
+    // example: call_journal
     let mut journal = Journal::new(alloc, true);
-    journal.make_room()?;
-    journal.note(MadeCall {
-        moment: 7,
-        call: CallLine::Schedule(5),
-    });
-    journal.make_room()?;
-    journal.note(MadeCall {
-        moment: 9,
-        call: CallLine::Cancel(0),
-    });
-    assert_eq!(rt; (journal.calls().len(), journal.is_over()), (2, false));
+    let call = CallLine::Schedule(5);
+    journal.make_room()?; // before the call is made
+    journal.note(MadeCall { moment: 7, call }); // once it is made
+    assert_eq!(rt; (journal.calls().len(), journal.is_over()), (1, false));
+
     let text = plan_text(alloc, journal.calls())?;
-    let plan = read_plan(alloc, text.as_bytes())?;
+    assert!(rt; text.starts_with("version = 2\n\n[[block]]\n"));
+    let plan = read_plan(alloc, text.as_bytes())?; // of `plan_read`
     assert_eq!(rt; plan.blocks().len(), 1);
+    // end of example
     Ok(())
 }
 

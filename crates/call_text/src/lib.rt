@@ -8,15 +8,18 @@
 //!   [`front_event`](trace_text::front_event).
 //!
 //! ```rust
-//! read_call(b"call schedule 5\n");       // Some(CallLine::Schedule(5))
-//! read_call(b"call policy remove true\n"); // Some(CallLine::Policy(Which::Remove, true))
-//! read_call(b"call rate 5 0\n");         // None: no period
-//! split_call(b"call ask\nclock 5\n");    // Some((CallLine::Ask, b"clock 5\n"))
+//! let schedule = CallLine::Schedule(5);
+//! assert_eq!(rt; read_call(b"call schedule 5\n"), Some(schedule));
+//! assert_eq!(rt; read_call(b"call rate 5 0\n"), None); // no period
+//! let ask = Some((CallLine::Ask, b"clock 5\n".as_slice()));
+//! assert_eq!(rt; split_call(b"call ask\nclock 5\n"), ask);
 //!
-//! front_line(b"clock 5\ncall");          // LiveFront::Event(Event::Clock(5), 8): the first 8 bytes
-//! front_line(b"call cancel 3\nstart");   // LiveFront::Call(CallLine::Cancel(3), 14)
-//! front_line(b"call");                   // LiveFront::Part
-//! front_line(b"call cancel 03\n");       // LiveFront::Refused
+//! let clock = LiveFront::Event(Event::Clock(5), 8); // the first 8 bytes
+//! assert_eq!(rt; front_line(b"clock 5\ncall"), clock);
+//! let cancel = LiveFront::Call(CallLine::Cancel(3), 14);
+//! assert_eq!(rt; front_line(b"call cancel 3\nstart"), cancel);
+//! assert_eq!(rt; front_line(b"call"), LiveFront::Part);
+//! assert_eq!(rt; front_line(b"call cancel 03\n"), LiveFront::Refused);
 //! ```
 //!
 //! # Behaviour
@@ -55,7 +58,7 @@
 //! the newline, and for a call last. The longest line of a call has 51 bytes, so each is below
 //! [`MOST_EVENT_BYTES`](trace_text::MOST_EVENT_BYTES), as the longest of an event, 35, is.
 //!
-//! The tests of a module stand beside it, as `src/call/tests.rt`.
+//! The tests of a module stand beside it, as `src/call/tests.rt`, and the lines above in `src/tests.rt`.
 #![tactic(auto)]
 
 mod call;

@@ -9,12 +9,16 @@
 //!   others by a further call, from the line on of which the number is [`Copied::lines`].
 //!
 //! ```rust
-//! let copied = put_lines(&lines, &mut out);
-//! &out[..copied.bytes]; // b"5 clock\n5 start 0 idle\n"
+//! let clock = Line::new(5, Message::Answer(Answer::Clock));
+//! let end = Line::new(5, Message::End(3));
+//! let mut out = [0u8; 200];
+//! let copied = put_lines(&[clock, end], &mut out);
+//! assert_eq!(rt; (copied.lines, copied.bytes), (2, 16));
+//! assert!(rt; out.starts_with(b"5 clock\n5 end 3\n"));
 //!
 //! let mut copy = LineCopy::new();
-//! while copy.copied().lines < count && copy.put(&mut out, &line_of(copy.copied().lines)) {}
-//! &out[..copy.copied().bytes];
+//! assert!(rt; copy.put(&mut out, &end));
+//! assert!(rt; out.starts_with(b"5 end 3\n"));
 //! ```
 //!
 //! # Behaviour
@@ -36,7 +40,7 @@
 //! No memory is taken, and each byte is written where it stays. Lines of one moment, one behind the other, copy the digits of it
 //! from the last one.
 //!
-//! The tests stand in `src/tests.rt`.
+//! The tests stand in `src/tests.rt`, and the lines above in `src/tests/usage.rt`.
 #![tactic(auto)]
 
 mod copied;

@@ -1,4 +1,6 @@
 //! Lines that are copied, into buffers of all sizes.
+mod usage;
+
 use crate::{Copied, LineCopy, put_lines};
 use executor_core::{Answer, Line, Message};
 use std::process::Abort;

@@ -3,16 +3,14 @@
 //! # Usage
 //!
 //! ```rust
-//! match reason_of_events(alloc, b"start 0\nclock 05\n") {
-//!     None => println!(rt; "fine")?,
-//!     Some(reason) => eprintln!(rt; "{}", reason.in_file("events.txt"))?,
-//! }
-//! // events.txt:2: "clock 05": leading zero; a moment has none, as in "clock 5"
+//! assert!(rt; reason_of_events(alloc, b"start 0\n").is_none());
+//! let reason = reason_of_events(alloc, b"start 0\nclock 05\n").ok_or("no reason")?;
+//! let told = reason.in_file("events.txt").to_string(alloc)?;
+//! let wanted = "events.txt:2: \"clock 05\": leading zero; a moment has none, as in \"clock 5\"";
+//! assert_eq!(rt; told.as_str(), wanted);
 //!
-//! line_fault(b"5  clock\n");    // LineFault::TwoSpaces
-//! line_fault(b"05 clock\n");    // LineFault::Number(b"05", NumberFault::LeadingZero)
-//! number_fault(b"5ms", 255);    // Some(NumberFault::Unit)
-//! Quoted(b"5 clock\r");         // prints "5 clock\r" in quotes, with the escape
+//! assert_eq!(rt; line_fault(b"5  clock\n"), LineFault::TwoSpaces);
+//! assert_eq!(rt; number_fault(b"5ms", 255), Some(NumberFault::Unit));
 //! ```
 //!
 //! # Behaviour

@@ -5,6 +5,7 @@ mod lines;
 mod memory;
 mod numbers;
 mod places;
+mod usage;
 mod words;
 
 use crate::{EventsReason, reason_of_events};

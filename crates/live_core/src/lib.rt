@@ -8,22 +8,27 @@
 //!
 //! ```rust
 //! let mut executor = ScheduledExecutor::new(alloc, 2)?;
-//! executor.schedule(0, 5)?;    // task 0 is accepted, and due at 5
+//!
+//! executor.schedule(0, 5)?; // task 0 is accepted, and due at 5
 //! executor.at_rate(0, 3, 10)?; // task 1 is due at 3, 13, 23 and so on
-//! executor.next_due();         // Some(3)
+//! assert_eq!(rt; executor.next_due(), Some(3));
 //!
 //! executor.clock(3)?;
-//! executor.start(0)?;                    // run 0 of task 1, which was due at 3
-//! executor.finish(0, Ending::Value(7))?; // Outcome::Again(13)
-//! executor.cancel_number(0)?;            // CancelEffect::Yes: task 0 is kept in the queue
-//! executor.clock(13)?;
-//! executor.start(1)?;                    // run 1 of task 1: task 0 was met, and has left
-//! executor.len();                        // 1
+//! let begun = executor.start(0)?;
+//! assert_eq!(rt; begun.map(|run| (run.task.number, run.due)), Some((1, 3)));
+//! let ended = executor.finish(0, Ending::Value(7))?;
+//! assert_eq!(rt; ended.outcome, Outcome::Again(13));
 //!
-//! executor.shut_down(13)?;               // true: the first call to shut down, at 14
-//! executor.execute(14)?;                 // rejected: a number, 2, and no task
-//! executor.finish(1, Ending::Value(8))?; // Outcome::Ended: no run comes after it
-//! executor.len();                        // 0
+//! assert_eq!(rt; executor.cancel_number(0)?, CancelEffect::Yes); // task 0 is kept in the queue
+//! executor.clock(13)?;
+//! let begun = executor.start(1)?; // task 0 is met, and leaves
+//! assert_eq!(rt; begun.map(|run| (run.task.number, run.run)), Some((1, 1)));
+//! assert_eq!(rt; executor.len(), 1);
+//!
+//! assert!(rt; executor.shut_down(13)?); // the first call to shut down, at 14
+//! assert_eq!(rt; executor.execute(14)?, Submitted::Rejected { number: 2 });
+//! let ended = executor.finish(1, Ending::Value(8))?; // no run comes after it
+//! assert_eq!(rt; (ended.outcome, executor.len()), (Outcome::Ended, 0));
 //! ```
 //!
 //! # Behaviour

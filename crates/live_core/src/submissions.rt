@@ -22,6 +22,18 @@ impl<A: Allocator> ScheduledExecutor<A> {
     /// [`CallError::TooLong`] where `delay` is above 2^62, [`CallError::TooFar`] where the moment of the call would be,
     /// [`CallError::Full`] where 2^64 - 1 numbers were given out, and [`CallError::Memory`] where each slot holds a task, and memory
     /// for more is refused, or there are 2^30: nothing has changed then.
+    ///
+    /// ```rust
+    /// let mut executor = ScheduledExecutor::new(alloc, 1)?;
+    /// executor.schedule(7, 5)?; // at moment 7, and due 5 nanoseconds later
+    /// assert_eq!(rt; (executor.len(), executor.next_due()), (1, Some(12)));
+    /// assert_eq!(rt;
+    ///     executor.schedule(7, u64::MAX).err(),
+    ///     Some(CallError::TooLong)
+    /// );
+    /// executor.shut_down(8)?;
+    /// assert_eq!(rt; executor.schedule(8, 5)?, Submitted::Rejected { number: 1 });
+    /// ```
     #[inline(always)]
     pub fn schedule(&mut self, at: u64, delay: u64) -> Result<Submitted, CallError>
         ensures made { IfOk result (λ s. Submits self.old self.new at timings.Once delay s) }

@@ -10,6 +10,7 @@ mod shutting;
 mod slots;
 mod steps;
 mod submissions;
+mod tables;
 mod usage;
 
 use crate::{MakeError, ScheduledExecutor};

@@ -15,7 +15,7 @@ use crate::counts::Counts;
 use crate::opening::OpenError;
 use crate::report::LiveReport;
 use crate::stops::PieceEnd;
-use byte_ends::{Filled, Held, Sink, Source, write_text};
+use byte_ends::{Filled, HeldBytes, Sink, Source, write_text};
 use call_journal::Journal;
 use executor_core::Line;
 use live_core::{MakeError, ScheduledExecutor};
@@ -79,7 +79,7 @@ pub(crate) enum Turn {
 #[derive(Drop)]
 pub(crate) struct Engine<A: Allocator> {
     executor: ScheduledExecutor<A>,
-    held: Held<A>,
+    held: HeldBytes<A>,
     /// The lines of the answer at hand, where it has several.
     lines: Vec<Line, A>,
     /// The text of the answers that was not written yet.
@@ -105,7 +105,7 @@ impl<A: Allocator> Engine<A> {
         };
         Ok(Engine {
             executor,
-            held: Held::new(alloc)?,
+            held: HeldBytes::new(alloc)?,
             lines: Vec::new(alloc),
             draft: Draft::new(alloc)?,
             counts: Counts {

@@ -1,4 +1,6 @@
 //! Live runs over bytes in memory.
+mod usage;
+
 use crate::{LiveReport, run};
 use byte_ends::{Pieces, Reading, Writing};
 use call_journal::{Journal, MadeCall};

@@ -8,11 +8,12 @@
 //! let submit = LiveLine::Call(CallLine::Schedule(5));
 //! let cancel = LiveLine::Call(CallLine::Cancel(0));
 //!
-//! // Four lines: no task has the number 0 yet, the clock is at 3, task 0 is submitted at 4 and due at 9, and is cancelled.
+//! // No task has the number 0 yet, the clock is at 3, task 0 is submitted at 4, and is cancelled.
 //! let told = trace_of_lines(alloc, 1, &[none, clock, submit, cancel])?;
+//! assert_eq!(rt; told.as_ref().map(|lines| lines.len()), Some(4));
 //!
-//! // None: no number was given out.
-//! let told = trace_of_lines(alloc, 1, &[clock, cancel])?;
+//! // No number was given out.
+//! assert!(rt; trace_of_lines(alloc, 1, &[clock, cancel])?.is_none());
 //! ```
 //!
 //! [`trace_of_lines`] gives the lines of the trace of some lines of a live input, as `run` of `live_engine` writes them.

@@ -4,12 +4,11 @@
 //!
 //! ```rust
 //! let text = b"version = 2\n\n[[block]]\n\n[[block.call]]\nop = \"sched\"\n";
-//! match reason_of(alloc, text) {
-//!     None => println!(rt; "fine")?,
-//!     Some(reason) => eprintln!(rt; "{}", reason.in_file("plan.toml"))?,
-//! }
-//! // plan.toml:6: block 1, call 1, op = "sched": no such op; one of schedule, execute, rate, fixed, cancel, policy, shutdown,
-//! // shutdown_now, ask
+//! let reason = reason_of(alloc, text).ok_or("no reason")?;
+//! let told = reason.in_file("plan.toml").to_string(alloc)?;
+//! let wanted = "plan.toml:6: block 1, call 1, op = \"sched\": no such op; \
+//!     one of schedule, execute, rate, fixed, cancel, policy, shutdown, shutdown_now, ask";
+//! assert_eq!(rt; told.as_str(), wanted);
 //! ```
 //!
 //! # Behaviour

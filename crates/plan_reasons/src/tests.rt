@@ -60,17 +60,16 @@ fn text_of_row(alloc: Global, front: &str, lines: &str) -> Result<String, Fail> 
 }
 
 #[test]
-fn the_lines_of_the_page(rt: HostRuntime) -> Result<(), Fail> {
+fn the_page_is_run(rt: HostRuntime) -> Result<(), Fail> {
     let alloc = rt.alloc();
+    // example: plan_reasons
     let text = b"version = 2\n\n[[block]]\n\n[[block.call]]\nop = \"sched\"\n";
-    let Some(reason) = reason_of(alloc, text) else {
-        return Err(Fail::from("a plan"));
-    };
+    let reason = reason_of(alloc, text).ok_or("no reason")?;
     let told = reason.in_file("plan.toml").to_string(alloc)?;
-    assert_eq!(rt;
-        told.as_str(),
-        "plan.toml:6: block 1, call 1, op = \"sched\": no such op; one of schedule, execute, rate, fixed, cancel, policy, shutdown, shutdown_now, ask"
-    );
+    let wanted = "plan.toml:6: block 1, call 1, op = \"sched\": no such op; \
+        one of schedule, execute, rate, fixed, cancel, policy, shutdown, shutdown_now, ask";
+    assert_eq!(rt; told.as_str(), wanted);
+    // end of example
     Ok(())
 }
 

@@ -23,7 +23,7 @@ use Rattle.pool_engine.specs.declared.stops.PoolStop.{PoolStop}
 use Rattle.pool_engine.specs.declared.stops.PoolStop.TheVariants as p
 use Rattle.pool_engine.specs.ClockLines.{AreAllClocks, EndsReading, told_of_reading}
 use Rattle.pool_engine.specs.own.Ended.{StopLeaves, stop_of_last}
-use Rattle.pool_engine.specs.PoolRuns.{LeavesWriter, PoolRan, PoolWrote, RunsAll, told_of_stop}
+use Rattle.pool_engine.specs.PoolRuns.{LeavesWriter, PoolRan, PoolWrote, RunsAll, told_of_pool_stop}
 
 -- what stays is kept
 pub kept : (contents : Option (List ℕ)) → Keeps contents contents
@@ -74,7 +74,7 @@ runs_all result text calls workers limit input left old new moments a all wrote 
 
 -- a pool that did not end well
 pub stopped : (stop : PoolStop) (text : List ℕ) (workers limit : ℕ) (input left old new : Option (List ℕ)) → RunsAll (Err stop) text workers limit input left old new
-    → PoolRan (Err (told_of_stop stop)) text workers limit input left old new
+    → PoolRan (Err (told_of_pool_stop stop)) text workers limit input left old new
 stopped p.Full text workers limit input left old new all = inr all
 stopped p.Write text workers limit input left old new all = all
 stopped p.Lost text workers limit input left old new all = all

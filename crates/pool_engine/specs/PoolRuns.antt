@@ -101,11 +101,11 @@ RunsAll result text workers limit input left old new =
     × (moments : List ℕ) × AreAllClocks limit input left moments × PoolWrote result calls workers limit moments old new
 
 -- what a caller is told of a pool that did not end well
-abbrev pub told_of_stop : PoolStop → RunError
-told_of_stop p.Full = x.Full
-told_of_stop p.Write = x.Write
-told_of_stop p.Lost = x.Lost
-told_of_stop p.Memory = x.Memory
+abbrev pub told_of_pool_stop : PoolStop → RunError
+told_of_pool_stop p.Full = x.Full
+told_of_pool_stop p.Write = x.Write
+told_of_pool_stop p.Lost = x.Lost
+told_of_pool_stop p.Memory = x.Memory
 
 -- what a run by a pool did: it refused, with nothing read or written; or the reading ended early, and nothing was written; or all
 -- was read, and the pool ran

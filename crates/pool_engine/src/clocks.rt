@@ -4,7 +4,7 @@ ghost use Rattle.sched_engine.specs.Inputs.{IsRefused};
 ghost use Rattle.pool_engine.specs.ClockLines.{AreAllClocks, EndsReading};
 ghost use Rattle.pool_engine.specs.own.ClockLines.{CountsReading, IsClockRead, IsNoClockEnd, IsOther, StopsAt, TakesClocks};
 
-use byte_ends::{Filled, Held, Source};
+use byte_ends::{Filled, HeldBytes, Source};
 use executor_core::Event;
 use sched_engine::RunError;
 use std::alloc::{AllocError, Allocator};
@@ -82,7 +82,7 @@ pub fn read_clocks<A: Allocator + Copy, S: Source>(
     ensures read { CountsReading result (S.failed reader.old) (S.fruitless reader.old)
         (S.failed reader.new) (S.fruitless reader.new) }
 {
-    let mut held = Held::new(alloc)?;
+    let mut held = HeldBytes::new(alloc)?;
     let mut moments = Vec::new(alloc);
     loop {
         match held.fill(reader) {

@@ -2,10 +2,22 @@
 //!
 //! # Usage
 //!
-//! ```text
-//! let mut reader = Reading::new(rt.reader()); // "clock 0\nclock 5\n"
-//! let mut writer = Writing::new(io::writer(&rt));
-//! let report = run_pool(&rt, rt.alloc(), plan, 2, 1_000, &mut reader, &mut writer)?;
+//! ```rust
+//! let plan = "version = 2\n[[block]]\ncall = [ { op = \"execute\", name = \"a\" } ]\n";
+//! let mut reader = Pieces::new(b"clock 0\nclock 5\n", 64);
+//! let mut writer = Writing::new(Vec::new(alloc));
+//! let report = run_pool(
+//!     &rt,
+//!     alloc,
+//!     plan.as_bytes(),
+//!     1,
+//!     100,
+//!     &mut reader,
+//!     &mut writer,
+//! )?;
+//! assert_eq!(rt; (report.events, report.lines), (4, 5)); // two clocks, a start and a finish
+//! let trace = writer.into_inner();
+//! assert!(rt; trace.starts_with(b"0 submit 0 schedule due 0\n0 clock\n0 start 0 task 0"));
 //! ```
 //!
 //! The plan, the readers and writers, the report and the errors are those of `sched_engine`. A job of one's own is given to a

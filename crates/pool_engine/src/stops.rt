@@ -40,9 +40,9 @@ impl LastError {
 
 impl From<PoolStop> for RunError {
     ghost use Rattle.std.specs.Prelude.{◌≡◌};
-    ghost use Rattle.pool_engine.specs.PoolRuns.{told_of_stop};
+    ghost use Rattle.pool_engine.specs.PoolRuns.{told_of_pool_stop};
 
-    ghost from_gives = { λ stop e. e ≡ told_of_stop stop };
+    ghost from_gives = { λ stop e. e ≡ told_of_pool_stop stop };
 
     fn from(stop: PoolStop) -> RunError {
         match stop {

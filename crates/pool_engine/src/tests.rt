@@ -2,6 +2,8 @@
 mod ends;
 mod example;
 mod growths;
+mod row_by_row;
+mod usage;
 
 use crate::run_pool;
 use byte_ends::{Pieces, Writing};

@@ -17,6 +17,9 @@ use Rattle.pool_engine.specs.PoolRuns.{PoolRan}
 use Rattle.sched_engine.specs.Running.{IsAccepted, IsUntouched, Ran, RefusesToRun}
 use Rattle.sched_engine.specs.CodeTexts.{Listed}
 use Rattle.task_list.specs.Writing.{TasksWritten}
+use Rattle.sched_engine.specs.declared.report.CodeError.TheVariants as c
+use Rattle.sched_engine.specs.declared.report.ListingError.{ListingError}
+use Rattle.sched_engine.specs.declared.report.ListingError.TheVariants as l
 use Rattle.sched_engine.specs.declared.report.Report.{Report}
 use Rattle.sched_engine.specs.Stages.{told_of_opening}
 use Rattle.sched_engine.specs.declared.report.OpenError.{OpenError}
@@ -34,7 +37,7 @@ use Rattle.sched.specs.declared.arguments.AskedAlone.TheVariants as a
 use Rattle.sched.specs.declared.arguments.RunArguments.{RunArguments}
 use Rattle.sched.specs.Arguments.{Asks}
 use Rattle.sched.specs.Serving.{EndsAlone, ReadsTrace}
-use Rattle.sched.specs.Answers.{end_of, in_status, ListedAsAsked, MigratedAsAsked, PooledAsAsked, RanAsAsked, TellsEnd, ToldTasksAsAsked}
+use Rattle.sched.specs.Answers.{end_of, in_status, ListedAsAsked, MigratedAsAsked, PooledAsAsked, RanAsAsked, TellsEnd, TellsListing, ToldTasksAsAsked}
 use Rattle.sched.specs.Commands.{IsEndOf, NamesTrace}
 use Rattle.sched.specs.Drawings.{IsDrawnAsAsked}
 use Rattle.sched.specs.Errors.{IsToldAs, status_of}
@@ -213,20 +216,14 @@ pub code_read : (text : List ℕ) (answer : Result ℕ ProgramError) (IsPlan : O
     → IsPlan (Some text) → ListedAsAsked answer text old new → AnswersCode answer IsPlan old new
 code_read text answer IsPlan old new read all = go all.ended all.listed all.told
   where
-    go : (ended : Result (Unit {0}) RunError) → Listed ended text old new → TellsEnd ended answer → AnswersCode answer IsPlan old new
+    go : (ended : Result (Unit {0}) ListingError) → Listed ended text old new → TellsListing ended answer → AnswersCode answer IsPlan old new
     go (Ok done) listed told = inr (Some text, read, inr (no_code_fault text listed.1.plan listed.1.reads, all))
-    go (Err x.Write) listed told = inr (Some text, read, inr (no_code_fault text listed.1.plan listed.1.reads, all))
-    go (Err (x.Plan fault)) listed told = elim (told_plan text fault told.0 listed.0 told.1) [
+    go (Err l.Write) listed told = inr (Some text, read, inr (no_code_fault text listed.1.plan listed.1.reads, all))
+    go (Err (l.Code (c.Plan fault))) listed told = elim (told_plan text fault told.0 listed.0 told.1) [
       | inl memory ↦ inl (told.2 ∙ ap Err memory, listed.1)
       | inr first ↦ inr (Some text, read, inl (told.0, inr (plan_there text, inl first), told.2, listed.1))
     ]
-    go (Err x.Memory) listed told = inl (told.2 ∙ ap Err told.1, listed.1)
-    go (Err x.Workers) listed told = absurd listed
-    go (Err x.Limit) listed told = absurd listed
-    go (Err (x.EventLine n)) listed told = absurd listed
-    go (Err x.Full) listed told = absurd listed
-    go (Err x.Read) listed told = absurd listed
-    go (Err x.Lost) listed told = absurd listed
+    go (Err (l.Code c.Memory)) listed told = inl (told.2 ∙ ap Err told.1, listed.1)
 
 -- ---- the tasks
 
@@ -235,20 +232,14 @@ pub tasks_read : (text : List ℕ) (answer : Result ℕ ProgramError) (IsPlan : 
     → IsPlan (Some text) → ToldTasksAsAsked answer text old new → AnswersTasks answer IsPlan old new
 tasks_read text answer IsPlan old new read all = go all.ended all.written all.told
   where
-    go : (ended : Result (Unit {0}) RunError) → TasksWritten ended text old new → TellsEnd ended answer → AnswersTasks answer IsPlan old new
+    go : (ended : Result (Unit {0}) ListingError) → TasksWritten ended text old new → TellsListing ended answer → AnswersTasks answer IsPlan old new
     go (Ok done) written told = inr (Some text, read, inr (no_code_fault text written.1.plan written.1.reads, all))
-    go (Err x.Write) written told = inr (Some text, read, inr (no_code_fault text written.1.plan written.1.reads, all))
-    go (Err (x.Plan fault)) written told = elim (told_plan text fault told.0 written.0 told.1) [
+    go (Err l.Write) written told = inr (Some text, read, inr (no_code_fault text written.1.plan written.1.reads, all))
+    go (Err (l.Code (c.Plan fault))) written told = elim (told_plan text fault told.0 written.0 told.1) [
       | inl memory ↦ inl (told.2 ∙ ap Err memory, written.1)
       | inr first ↦ inr (Some text, read, inl (told.0, inr (plan_there text, inl first), told.2, written.1))
     ]
-    go (Err x.Memory) written told = inl (told.2 ∙ ap Err told.1, written.1)
-    go (Err x.Workers) written told = absurd written
-    go (Err x.Limit) written told = absurd written
-    go (Err (x.EventLine n)) written told = absurd written
-    go (Err x.Full) written told = absurd written
-    go (Err x.Read) written told = absurd written
-    go (Err x.Lost) written told = absurd written
+    go (Err (l.Code c.Memory)) written told = inl (told.2 ∙ ap Err told.1, written.1)
 
 -- ---- a migration
 

@@ -15,8 +15,10 @@ use Rattle.sched.specs.declared.error.ProgramError.TheVariants.{Run}
 use Rattle.byte_ends.specs.Ends.{CountsTries, NoneFailed, WritesText}
 use Rattle.sched_engine.specs.Running.{Ran}
 use Rattle.sched_engine.specs.CodeTexts.{Listed}
+use Rattle.sched_engine.specs.Stages.{told_of_listing}
 use Rattle.task_list.specs.Writing.{TasksWritten}
 use Rattle.pool_engine.specs.PoolRuns.{PoolRan}
+use Rattle.sched_engine.specs.declared.report.ListingError.{ListingError}
 use Rattle.sched_engine.specs.declared.report.Report.{Report}
 use Rattle.sched_engine.specs.declared.report.RunError.{RunError}
 use Rattle.sched_engine.specs.declared.report.RunError.TheVariants as x
@@ -25,6 +27,11 @@ use Rattle.sched_engine.specs.declared.report.RunError.TheVariants as x
 abbrev pub TellsEnd : {T : Type 0} → Result T RunError → Result ℕ ProgramError → Type 0
 TellsEnd (Ok done) answer = answer ≡ Ok 0
 TellsEnd (Err error) answer = (fault : ProgramError) × IsToldAs error fault × (answer ≡ Err fault)
+
+-- the same of a listing
+abbrev pub TellsListing : Result (Unit {0}) ListingError → Result ℕ ProgramError → Type 0
+TellsListing (Ok done) answer = answer ≡ Ok 0
+TellsListing (Err error) answer = (fault : ProgramError) × IsToldAs (told_of_listing error) fault × (answer ≡ Err fault)
 
 -- the run that was asked for, over the plan that the text writes, and its end as the answer tells it
 pub record RanAsAsked (answer : Result ℕ ProgramError) (asked : RunArguments) (text : List ℕ) (input left old new : Option (List ℕ)) : Type 0 where
@@ -40,15 +47,15 @@ pub record PooledAsAsked (answer : Result ℕ ProgramError) (asked : RunArgument
 
 -- the listing of the plan that the text writes, and its end as the answer tells it
 pub record ListedAsAsked (answer : Result ℕ ProgramError) (text : List ℕ) (old new : Option (List ℕ)) : Type 0 where
-  pub ended : Result (Unit {0}) RunError
+  pub ended : Result (Unit {0}) ListingError
   pub listed : Listed ended text old new
-  pub told : TellsEnd ended answer
+  pub told : TellsListing ended answer
 
 -- the tasks of the plan that the text writes, and their end as the answer tells it
 pub record ToldTasksAsAsked (answer : Result ℕ ProgramError) (text : List ℕ) (old new : Option (List ℕ)) : Type 0 where
-  pub ended : Result (Unit {0}) RunError
+  pub ended : Result (Unit {0}) ListingError
   pub written : TasksWritten ended text old new
-  pub told : TellsEnd ended answer
+  pub told : TellsListing ended answer
 
 -- the migration of the plan that the text writes, as the answer tells it: the whole of it was written, or a front of it where the
 -- writer is at fault

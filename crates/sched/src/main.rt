@@ -67,8 +67,8 @@
 //! grow with the number of events, nor with the calls that a repeated block makes, but for the tables of its tasks and for room
 //! for a line for each call that one clock reaches. A live run takes what [`live_engine::run`] takes, and where FILE is named the
 //! calls, the tree of their plan and its text. A check takes the text of the trace, and what a core takes; a drawing its lines and
-//! the text of the picture too. A lint takes what a check takes, and checks a trace that breaks again for each line that could stand, and
-//! for each number of workers.
+//! the text of the picture too. A lint of a trace takes what a check takes, and its lines, and checks a trace that breaks again for
+//! each line that could stand, and for each number of workers.
 //!
 //! # Tests
 //!

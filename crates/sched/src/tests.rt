@@ -7,31 +7,24 @@ mod live_lines;
 mod memory;
 mod pictures;
 mod programs;
+mod sessions;
 mod world;
 
-use std::alloc::Global;
 use std::process::{Abort, ExitCode};
 use std::sync::Wait;
 use std::thread::Threads;
-use world::{Ended, Given, GivenFile, run_in};
+use world::{Ended, Given, file, run_in};
 
 /// The plan of one delayed task, in the file `plan.toml`.
 const ONE_DELAY: &str =
     "version = 1\n\n[[block]]\n\n[[block.call]]\nop = \"schedule\"\nname = \"a\"\ndelay = 5\n";
 
 /// A command line that is given, with the plan of one delayed task and these events.
-fn given<'a>(arguments: &'a [&'a [u8]], events: &'a str) -> Given<'a> {
+fn given<'a>(line: &'a str, events: &'a str) -> Given<'a> {
     Given {
-        arguments,
-        name: "plan.toml",
-        plan: GivenFile {
-            rest: ONE_DELAY.as_bytes(),
-            is_broken: false,
-        },
-        trace: GivenFile {
-            rest: b"",
-            is_broken: false,
-        },
+        line,
+        plan: file(ONE_DELAY, false),
+        trace: file("", false),
         events: events.as_bytes(),
         is_closed: false,
         created: None,
@@ -40,10 +33,13 @@ fn given<'a>(arguments: &'a [&'a [u8]], events: &'a str) -> Given<'a> {
 
 /// Checks that the program ended with this status, and wrote just these texts to standard output and to
 /// standard error.
-fn ends(rt: &impl Abort, ended: &Ended, status: u8, out: &str, err: &str) {
-    assert_eq!(rt; ended.status, ExitCode::from(status));
-    assert!(rt; ended.out.as_slice() == out.as_bytes(), "{out}");
-    assert!(rt; ended.err.as_slice() == err.as_bytes(), "{err}");
+fn ends(rt: &impl Abort, name: &str, ended: &Ended, status: u8, out: &str, err: &str) {
+    assert!(rt;
+        ended.status == ExitCode::from(status),
+        "{name}: status {status}"
+    );
+    assert!(rt; ended.out.as_slice() == out.as_bytes(), "{name}: {out}");
+    assert!(rt; ended.err.as_slice() == err.as_bytes(), "{name}: {err}");
 }
 
 /// Checks how the program ends where this is given.
@@ -54,5 +50,5 @@ fn ends_given<R: AllocGlobal + Abort + Threads + Wait + Sync>(
     out: &str,
     err: &str,
 ) {
-    ends(rt, &run_in(rt, given), status, out, err)
+    ends(rt, given.line, &run_in(rt, given), status, out, err)
 }

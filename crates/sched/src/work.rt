@@ -142,7 +142,7 @@ fn list_text<A: HeapAllocator, W: Sink>(
     ensures unread { IsErrOf result (ProgramError.Run RunError.Read) → ⊥ }
     ensures status { MatchResult result (λ s. s ≡ 0) (λ e. status_of e ≡ 1) }
 {
-    write_listing(alloc, text, writer)?;
+    write_listing(alloc, text, writer).map_err(RunError::from)?;
     Ok(0)
 }
 
@@ -177,7 +177,7 @@ fn tasks_text<A: HeapAllocator, W: Sink>(
     ensures unread { IsErrOf result (ProgramError.Run RunError.Read) → ⊥ }
     ensures status { MatchResult result (λ s. s ≡ 0) (λ e. status_of e ≡ 1) }
 {
-    write_tasks(alloc, text, writer)?;
+    write_tasks(alloc, text, writer).map_err(RunError::from)?;
     Ok(0)
 }
 

@@ -3,10 +3,15 @@
 //! # Usage
 //!
 //! ```rust
-//! let audit = run_and_check(alloc, plan_text, 1, 1_000, b"clock 5\nstart 0\nfinish 0 ok 7\n")?;
-//! audit.answer;  // Ok(Report { events: 3, lines: 4 })
-//! audit.trace;   // b"0 submit 0 schedule due 5\n5 clock\n5 start 0 task 0 run 0 due 5\n.."
-//! audit.finding; // Finding::Conforms
+//! let plan = "version = 2\n[[block]]\ncall = [ { op = \"execute\", name = \"a\" } ]\n";
+//! let audit = run_and_check(alloc, plan.as_bytes(), 1, 1_000, b"clock 5\nstart 0\n")?;
+//! assert_eq!(rt; audit.answer.map(|report| report.events), Ok(2));
+//! assert!(rt;
+//!     audit
+//!         .trace
+//!         .starts_with(b"0 submit 0 schedule due 0\n5 clock\n5 start 0 task 0")
+//! );
+//! assert_eq!(rt; audit.finding, Finding::Conforms);
 //! ```
 //!
 //! # Behaviour
@@ -44,8 +49,8 @@
 //!
 //! # Tests
 //!
-//! `tests.rt` has runs and the texts of errors, `tests/examples` the examples of the folder `examples`, and `tests/sizes.rt`
-//! runs, checks and listings of 80 KB and more.
+//! `tests/row_by_row.rt` goes over the crate `rows`, `tests.rt` has runs that end early and the texts of errors, and
+//! `tests/sizes.rt` runs, checks and listings of 80 KB and more.
 //!
 //! `tests/growths` is about crates below as well: of a plan that is read, compiled, listed, run and checked, and of an event, each
 //! growth is refused in turn, over the crate `refusing_allocator`, which refuses one growth and grants all others. Want of

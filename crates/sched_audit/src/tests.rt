@@ -1,72 +1,23 @@
-mod examples;
 mod growths;
+mod row_by_row;
 mod sizes;
 mod units;
+mod usage;
 
 use crate::audit::{Audit, run_and_check};
 use crate::error::AuditError;
 use byte_ends::Writing;
 use plan_read::{PlanFault, PlanFaultKind, migrate};
+use rows::runs::ONE_DELAY;
 use sched_engine::{Report, RunError, write_listing};
 use std::process::Abort;
 use std::test::Fail;
 use trace_check::Finding;
 
-/// The plan of one delayed task.
-const ONE_DELAY: &str =
-    "version = 1\n\n[[block]]\n\n[[block.call]]\nop = \"schedule\"\nname = \"a\"\ndelay = 5\n";
-
-/// The events of its example.
-const EVENTS: &str = "clock 0\nstart 0\nclock 4\nstart 0\nclock 5\nstart 0\nfinish 0 ok 7\n";
-
-/// The trace of its example.
-const TRACE: &str = "\
-0 submit 0 schedule due 5
-0 clock
-0 start 0 idle
-4 clock
-4 start 0 idle
-5 clock
-5 start 0 task 0 run 0 due 5
-5 finish 0 task 0 run 0 done 7
-";
-
-/// A plan that shuts the executor, where two workers have work.
-const SHUTDOWN: &str = "\
-version = 1
-
-[[block]]
-call = [
-  { op = \"rate\", name = \"a\", first = 10, period = 10 },
-  { op = \"schedule\", name = \"b\", delay = 10 },
-  { op = \"schedule\", name = \"c\", delay = 30 },
-  { op = \"policy\", which = \"execute\", value = false, at = 20 },
-  { op = \"shutdown\", at = 20 },
-]
-";
-
-/// Its trace: what is wrong with an event is answered, and ends of tasks stand behind the shutdown.
-const SHUTDOWN_TRACE: &str = "\
-0 submit 0 rate due 10
-0 submit 1 schedule due 10
-0 submit 2 schedule due 30
-10 clock
-10 start 0 task 0 run 0 due 10
-10 start 1 task 1 run 0 due 10
-10 error no worker
-10 error busy
-10 finish 1 task 1 run 0 failed 4294967295
-20 policy execute false
-20 shutdown
-20 end 2
-20 clock
-20 finish 0 task 0 run 0 ended
-20 error too far
-";
-
 /// A run, and what it has to answer and to write.
 #[derive(Clone, Copy)]
-struct Row<'a> {
+struct Run<'a> {
+    name: &'a str,
     plan: &'a str,
     workers: u8,
     limit: u32,
@@ -78,27 +29,32 @@ struct Row<'a> {
 /// The listing of the code of the plan that a text writes.
 fn listed(rt: &impl AllocGlobal, plan: &str) -> Result<Vec<u8>, Fail> {
     let mut writer = Writing::new(Vec::new(rt.alloc()));
-    write_listing(rt.alloc(), plan.as_bytes(), &mut writer)?;
+    write_listing(rt.alloc(), plan.as_bytes(), &mut writer).map_err(RunError::from)?;
     Ok(writer.into_inner())
 }
 
-/// Checks the answer and the trace of a row, and that the trace conforms; and all that with its plan migrated, where
+/// Checks the answer and the trace of a run, and that the trace conforms; and all that with its plan migrated, where
 /// that is of version 1, whose listing is the same.
-fn conforms(rt: &(impl AllocGlobal + Abort), row: &Row<'_>) -> Result<(), Fail> {
-    conforms_with(rt, row.plan, row)?;
-    match migrate(rt.alloc(), row.plan.as_bytes()) {
+fn conforms(rt: &(impl AllocGlobal + Abort), wanted: &Run<'_>) -> Result<(), Fail> {
+    conforms_with(rt, wanted.plan, wanted)?;
+    match migrate(rt.alloc(), wanted.plan.as_bytes()) {
         Ok(plan) => {
-            conforms_with(rt, plan.as_str(), row)?;
-            is_migrated(rt, plan.as_str());
-            assert!(rt; listed(rt, plan.as_str())?.as_slice() == listed(rt, row.plan)?.as_slice());
+            conforms_with(rt, plan.as_str(), wanted)?;
+            is_migrated(rt, plan.as_str(), wanted.name);
+            let listings = (listed(rt, plan.as_str())?, listed(rt, wanted.plan)?);
+            assert!(rt;
+                listings.0.as_slice() == listings.1.as_slice(),
+                "{}",
+                wanted.name
+            );
         }
-        Err(_) => is_migrated(rt, row.plan),
+        Err(_) => is_migrated(rt, wanted.plan, wanted.name),
     }
     Ok(())
 }
 
-/// Checks that a plan is of version 2.
-fn is_migrated(rt: &(impl AllocGlobal + Abort), plan: &str) {
+/// Checks that a plan, that of the run of this name, is of version 2.
+fn is_migrated(rt: &(impl AllocGlobal + Abort), plan: &str, name: &str) {
     let fault = migrate(rt.alloc(), plan.as_bytes()).err();
     assert_eq!(rt;
         fault,
@@ -106,12 +62,17 @@ fn is_migrated(rt: &(impl AllocGlobal + Abort), plan: &str) {
             kind: PlanFaultKind::Version,
             block: 0,
             call: 0,
-        })
+        }),
+        "{name}"
     );
 }
 
-/// Checks the answer and the trace of a row with this plan, and that the trace conforms.
-fn conforms_with(rt: &(impl AllocGlobal + Abort), plan: &str, row: &Row<'_>) -> Result<(), Fail> {
+/// Checks the answer and the trace of a run with this plan, and that the trace conforms.
+fn conforms_with(
+    rt: &(impl AllocGlobal + Abort),
+    plan: &str,
+    wanted: &Run<'_>,
+) -> Result<(), Fail> {
     let Audit {
         answer,
         trace,
@@ -119,13 +80,14 @@ fn conforms_with(rt: &(impl AllocGlobal + Abort), plan: &str, row: &Row<'_>) -> 
     } = run_and_check(
         rt.alloc(),
         plan.as_bytes(),
-        row.workers,
-        row.limit,
-        row.events.as_bytes(),
+        wanted.workers,
+        wanted.limit,
+        wanted.events.as_bytes(),
     )?;
-    assert!(rt; answer == row.answer, "{answer:?}");
-    assert!(rt; trace.as_slice() == row.trace.as_bytes());
-    assert_eq!(rt; finding, Finding::Conforms);
+    let name = wanted.name;
+    assert!(rt; answer == wanted.answer, "{name}: {answer:?}");
+    assert!(rt; trace.as_slice() == wanted.trace.as_bytes(), "{name}");
+    assert_eq!(rt; finding, Finding::Conforms, "{name}");
     Ok(())
 }
 
@@ -136,41 +98,10 @@ fn fails(rt: &(impl AllocGlobal + Abort), plan: &str, workers: u8, limit: u32, e
 }
 
 #[test]
-fn whole_runs_conform(rt: HostRuntime) -> Result<(), Fail> {
-    let rows = [
-        Row {
-            plan: ONE_DELAY,
-            workers: 1,
-            limit: 7,
-            events: EVENTS,
-            answer: Ok(Report {
-                events: 7,
-                lines: 8,
-            }),
-            trace: TRACE,
-        },
-        Row {
-            plan: SHUTDOWN,
-            workers: 2,
-            limit: 4_294_967_295,
-            events: "clock 10\nstart 0\nstart 1\nstart 2\nstart 1\nfinish 1 fail 4294967295\nclock 20\nfinish 0 ok 18446744073709551615\nclock 18446744073709551615\n",
-            answer: Ok(Report {
-                events: 9,
-                lines: 15,
-            }),
-            trace: SHUTDOWN_TRACE,
-        },
-    ];
-    for row in &rows {
-        conforms(&rt, row)?;
-    }
-    Ok(())
-}
-
-#[test]
 fn runs_that_end_early_conform(rt: HostRuntime) -> Result<(), Fail> {
-    let bad_line = Row {
-        plan: ONE_DELAY,
+    let bad_line = Run {
+        name: "a line that is no event",
+        plan: ONE_DELAY.plan,
         workers: 1,
         limit: 7,
         events: "clock 0\nstart 0\nclock  4\nstart 0\n",
@@ -178,11 +109,12 @@ fn runs_that_end_early_conform(rt: HostRuntime) -> Result<(), Fail> {
         trace: "0 submit 0 schedule due 5\n0 clock\n0 start 0 idle\n",
     };
     conforms(&rt, &bad_line)?;
-    let full = Row {
-        plan: ONE_DELAY,
+    let full = Run {
+        name: "the limit",
+        plan: ONE_DELAY.plan,
         workers: 1,
         limit: 1,
-        events: EVENTS,
+        events: ONE_DELAY.events,
         answer: Err(RunError::Full),
         trace: "0 submit 0 schedule due 5\n0 clock\n",
     };
@@ -203,8 +135,14 @@ fn what_is_refused_has_no_audit(rt: HostRuntime) {
         1,
         AuditError::Run(RunError::Plan(fault)),
     );
-    fails(&rt, ONE_DELAY, 65, 1, AuditError::Run(RunError::Workers));
-    fails(&rt, ONE_DELAY, 1, 0, AuditError::Run(RunError::Limit));
+    fails(
+        &rt,
+        ONE_DELAY.plan,
+        65,
+        1,
+        AuditError::Run(RunError::Workers),
+    );
+    fails(&rt, ONE_DELAY.plan, 1, 0, AuditError::Run(RunError::Limit));
 }
 
 /// The text of an error, and how it is shown to programmers.

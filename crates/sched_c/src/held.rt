@@ -12,34 +12,34 @@ use std::marker::Model;
 /// The pointer to a session, or null.
 #[repr(C)]
 #[derive(Drop)]
-pub struct Held {
+pub struct SessionPointer {
     ptr: *mut u8,
     alloc: Global,
     pub ghost full: { Bool },
     pub ghost value: { Seen } by { seen_coded },
 }
 
-impl Model for Held {
+impl Model for SessionPointer {
     ghost also_owns = { λ h. holds_session h.alloc h.ptr h.full h.value };
 }
 
-impl Held {
+impl SessionPointer {
     /// The null pointer.
-    pub(crate) fn nothing(alloc: Global) -> Held
+    pub(crate) fn nothing(alloc: Global) -> SessionPointer
         ensures { (result.full ≡ false) × (result.value ≡ no_session) }
     {
-        Held {
+        SessionPointer {
             ptr: std::ptr::null_mut(),
             alloc,
         }
     }
 
     /// The pointer to a session.
-    pub(crate) fn of(kept: Kept<Session, Global>) -> Held
+    pub(crate) fn of(kept: Kept<Session, Global>) -> SessionPointer
         ensures { (result.full ≡ true) × (result.value ≡ kept.value) }
     {
         let Kept { ptr, alloc } = kept;
-        Held {
+        SessionPointer {
             ptr: ptr as *mut u8,
             alloc,
         }
@@ -50,7 +50,7 @@ impl Held {
         requires { self.full ≡ true }
         ensures { result.value ≡ self.value }
     {
-        let Held { ptr, alloc } = self;
+        let SessionPointer { ptr, alloc } = self;
         Kept {
             ptr: ptr as *mut Session,
             alloc,
@@ -58,4 +58,4 @@ impl Held {
     }
 }
 
-unsafe impl Send for Held {}
+unsafe impl Send for SessionPointer {}

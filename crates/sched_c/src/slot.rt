@@ -2,7 +2,7 @@
 ghost use Rattle.std.specs.Prelude.{◌≡◌, true, false, is_some, IfSome, IfNone};
 ghost use Rattle.sched_c.specs.own.Kept.{no_session};
 
-use crate::held::Held;
+use crate::held::SessionPointer;
 use crate::session::Session;
 use c_slot::Kept;
 use std::alloc::Global;
@@ -14,7 +14,7 @@ use std::alloc::Global;
 #[derive(Drop)]
 pub struct Slot {
     /// The executor.
-    pub held: Held,
+    pub held: SessionPointer,
     /// Whether there is an executor.
     pub full: bool,
     pub ghost agrees: { held.full ≡ full },
@@ -27,7 +27,7 @@ impl Slot {
         ensures value { result.held.value ≡ no_session }
     {
         Slot {
-            held: Held::nothing(alloc),
+            held: SessionPointer::nothing(alloc),
             full: false,
         }
     }
@@ -38,7 +38,7 @@ impl Slot {
         ensures value { result.held.value ≡ session.value }
     {
         Slot {
-            held: Held::of(Kept::of(session)),
+            held: SessionPointer::of(Kept::of(session)),
             full: true,
         }
     }

@@ -12,8 +12,8 @@ use Rattle.plan_compile.specs.PlanCalls.{calls_of_plan}
 use Rattle.plan_compile.specs.PlanCode.{instrs_of}
 use Rattle.sched_engine.specs.declared.report.CodeError.{CodeError}
 use Rattle.sched_engine.specs.declared.report.CodeError.TheVariants as c
-use Rattle.sched_engine.specs.declared.report.RunError.{RunError}
-use Rattle.sched_engine.specs.declared.report.RunError.TheVariants as x
+use Rattle.sched_engine.specs.declared.report.ListingError.{ListingError}
+use Rattle.sched_engine.specs.declared.report.ListingError.TheVariants as l
 use Rattle.byte_ends.specs.Ends.{AllGood, LastBad, NoneFailed}
 
 -- the text writes a plan, whose code this is, and which makes the plan's calls
@@ -35,16 +35,14 @@ RefusesText text (c.Plan fault) = TextFails text fault ⊎ (fault ≡ out_of_mem
 RefusesText text c.Memory = (plan : PlanTree) × TextWrites text plan
 
 -- what the writing of a listing did: the whole of it was written, or nothing, or a front of it where the writer was at fault
-abbrev pub Listed : Result (Unit {0}) RunError → List ℕ → Option (List ℕ) → Option (List ℕ) → Type 0
+abbrev pub Listed : Result (Unit {0}) ListingError → List ℕ → Option (List ℕ) → Option (List ℕ) → Type 0
 Listed (Ok done) text old new = (listing : List ℕ) × IsListingOfText text listing × Appends old new listing
-Listed (Err x.Write) text old new = (listing : List ℕ) × IsListingOfText text listing × (n : ℕ) × Appends old new (take n listing)
-Listed (Err (x.Plan fault)) text old new = RefusesText text (c.Plan fault) × Keeps old new
-Listed (Err x.Memory) text old new = RefusesText text c.Memory × Keeps old new
-Listed (Err _) text old new = ⊥
+Listed (Err l.Write) text old new = (listing : List ℕ) × IsListingOfText text listing × (n : ℕ) × Appends old new (take n listing)
+Listed (Err (l.Code error)) text old new = RefusesText text error × Keeps old new
 
 -- what the calls of the writer of a listing count: what good tries do, the last of which was bad at `Write`; nothing where there is
 -- no code
-abbrev pub CountsListing : Result (Unit {0}) RunError → ℕ → ℕ → ℕ → ℕ → Type 0
+abbrev pub CountsListing : Result (Unit {0}) ListingError → ℕ → ℕ → ℕ → ℕ → Type 0
 CountsListing (Ok done) failed fruitless failed' fruitless' = AllGood failed fruitless failed' fruitless'
-CountsListing (Err x.Write) failed fruitless failed' fruitless' = LastBad failed fruitless failed' fruitless'
-CountsListing (Err e) failed fruitless failed' fruitless' = NoneFailed 0 failed fruitless failed' fruitless'
+CountsListing (Err l.Write) failed fruitless failed' fruitless' = LastBad failed fruitless failed' fruitless'
+CountsListing (Err (l.Code error)) failed fruitless failed' fruitless' = NoneFailed 0 failed fruitless failed' fruitless'

@@ -10,7 +10,7 @@ ghost use Rattle.sched_engine.specs.declared.engine.Turn.TheVariants as t;
 use crate::answering::{PieceEnd, answer_events};
 use crate::draft::Draft;
 use crate::report::{CodeError, OpenError, Report, RunError, StopError};
-use byte_ends::{Filled, Held, Sink, Source, write_text};
+use byte_ends::{Filled, HeldBytes, Sink, Source, write_text};
 use executor_core::{Core, CoreError, Line};
 use plan_compile::{CompileFault, compile};
 use plan_read::{HeapAllocator, read_plan};
@@ -35,6 +35,17 @@ use std::alloc::Allocator;
 /// A read or write that fails by `Interrupted` is tried again, up to the 1,000th in a row. That one,
 /// any other fault, and a write that takes nothing, is [`RunError::Read`] or [`RunError::Write`], and
 /// that end is not called again.
+///
+/// ```rust
+/// let mut reader = Pieces::new(b"clock 5\nstart 0\n", 64); // in place of `Reading::new(rt.stdin())`
+/// let mut writer = Writing::new(Vec::new(alloc)); // in place of `Writing::new(rt.stdout())`
+/// let report = run(alloc, b"version = 2\n", 1, 1_000, &mut reader, &mut writer)?;
+/// assert_eq!(rt; (report.events, report.lines), (2, 2));
+/// assert_eq!(rt;
+///     writer.into_inner().as_slice(),
+///     b"5 clock\n5 start 0 idle\n".as_slice()
+/// );
+/// ```
 pub fn run<A: HeapAllocator, S: Source, W: Sink>(
     alloc: A,
     plan_text: &[u8],
@@ -109,7 +120,7 @@ pub enum Turn {
 #[derive(Drop)]
 pub struct Engine<A: Allocator> {
     core: Core<A>,
-    held: Held<A>,
+    held: HeldBytes<A>,
     /// The lines of the call or event at hand, with room for all that the event may have.
     lines: Vec<Line, A>,
     /// The text of the answers that was not written yet.
@@ -131,7 +142,7 @@ impl<A: Allocator> Engine<A> {
     {
         Ok(Engine {
             core: core_of(alloc, plan_text, workers, limit)?,
-            held: Held::new(alloc)?,
+            held: HeldBytes::new(alloc)?,
             lines: Vec::new(alloc),
             draft: Draft::new(alloc)?,
             count: 0,

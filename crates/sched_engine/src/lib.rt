@@ -2,14 +2,14 @@
 //!
 //! # Usage
 //!
-//! ```text
-//! let (answer, trace) = run_in_memory(rt.alloc(), plan, 1, 1_000, b"clock 5\nstart 0\n");
-//!
-//! let mut reader = Reading::new(rt.reader());
-//! let mut writer = Writing::new(io::writer(&rt));
-//! let report = run(rt.alloc(), plan, workers, limit, &mut reader, &mut writer)?;
-//!
-//! write_listing(rt.alloc(), plan, &mut writer)?; // "0 submit 0 schedule 5\n1 halt\n"
+//! ```rust
+//! let plan = "version = 2\n[[block]]\ncall = [ { op = \"execute\", name = \"a\" } ]\n";
+//! let events = b"clock 5\nstart 0\nfinish 0 ok 7\n";
+//! let (answer, trace) = run_in_memory(alloc, plan.as_bytes(), 1, 1_000, events);
+//! assert_eq!(rt; answer.map(|report| report.events), Ok(3));
+//! let text = "0 submit 0 schedule due 0\n5 clock\n5 start 0 task 0 run 0 due 0\n\
+//!     5 finish 0 task 0 run 0 done 7\n";
+//! assert_eq!(rt; trace.as_slice(), text.as_bytes());
 //! ```
 //!
 //! [`run`] takes any [`Source`](byte_ends::Source) and any [`Sink`](byte_ends::Sink), of the crate `byte_ends`; [`run_in_memory`]
@@ -40,8 +40,9 @@
 //! | [`RunError::Memory`] | memory was refused before anything is read | nothing |
 //! | | memory was refused for the lines of a further event, within the limit | the answers to all events before |
 //!
-//! [`write_listing`] answers [`RunError::Plan`] and [`RunError::Memory`] with nothing written, and
-//! [`RunError::Write`] with a front of the listing written.
+//! These are put together of the errors of each stage, as a caller is told: [`CodeError`], [`OpenError`], [`StopError`].
+//! [`write_listing`] answers [`ListingError::Code`] with nothing written, and [`ListingError::Write`] with a front of the listing
+//! written.
 //!
 //! When an end is at fault is as `byte_ends` has it. An end at fault is not called again. At most one piece, 64 KiB, is read behind
 //! the last event that was taken.
@@ -74,4 +75,4 @@ pub use in_memory::run_in_memory;
 pub use laws::{events_are_one, front_is_one, report_equality_tells, run_error_equality_tells};
 pub use listing::write_listing;
 pub use plan_read::HeapAllocator;
-pub use report::{CodeError, OpenError, Report, RunError, StopError};
+pub use report::{CodeError, ListingError, OpenError, Report, RunError, StopError};

@@ -3,21 +3,21 @@ ghost use Rattle.std.specs.Prelude.{IfErr, IfOk, string_bytes};
 ghost use Rattle.sched_engine.specs.CodeTexts.{CountsListing, IsListingOfText, Listed, RefusesText};
 
 use crate::engine::code_of;
-use crate::report::{CodeError, RunError};
+use crate::report::{CodeError, ListingError};
 use byte_ends::{Sink, write_text};
 use plan_read::HeapAllocator;
 use queue_code::listing;
 
 /// Writes the listing of a plan's queue code: a line for each instruction, its index in front.
 ///
-/// `plan_text` is the plan's TOML, at most 1,048,576 bytes. On [`RunError::Plan`] and [`RunError::Memory`]
-/// nothing is written, on [`RunError::Write`] a front of the listing. No other error comes. A write is
-/// tried again as by [`run`](crate::run). Times in the listing are nanoseconds. Nothing is flushed.
+/// `plan_text` is the plan's TOML, at most 1,048,576 bytes. On [`ListingError::Code`] nothing is
+/// written, on [`ListingError::Write`] a front of the listing. A write is tried again as by
+/// [`run`](crate::run). Times in the listing are nanoseconds. Nothing is flushed.
 pub fn write_listing<A: HeapAllocator, W: Sink>(
     alloc: A,
     plan_text: &[u8],
     writer: &mut W,
-) -> Result<(), RunError>
+) -> Result<(), ListingError>
     ensures listed { Listed result plan_text.now (W.contents writer.old) (W.contents writer.new) }
     ensures write { CountsListing result (W.failed writer.old) (W.fruitless writer.old)
         (W.failed writer.new) (W.fruitless writer.new) }
@@ -26,7 +26,7 @@ pub fn write_listing<A: HeapAllocator, W: Sink>(
     if write_text(writer, text.as_bytes()) {
         Ok(())
     } else {
-        Err(RunError::Write)
+        Err(ListingError::Write)
     }
 }
 

@@ -3,43 +3,23 @@ use crate::in_memory::run_in_memory;
 use crate::report::{OpenError, Report, RunError};
 use byte_ends::{Pieces, Reading, Writing};
 use plan_read::{PlanFault, PlanFaultKind};
+use rows::runs::{ERRORS, ONE_DELAY};
 use std::alloc::Global;
 use std::io;
 use std::io::{ErrorKind, Read, Write};
 use std::process::Abort;
 use std::test::Fail;
 
-mod cancels;
 mod listings;
 mod long_runs;
-mod periodic;
-mod policies;
+mod row_by_row;
 mod scripted;
-mod stopping;
 mod turns;
+mod usage;
 
-/// The plan of one delayed task.
-const ONE_DELAY: &str =
-    "version = 1\n\n[[block]]\n\n[[block.call]]\nop = \"schedule\"\nname = \"a\"\ndelay = 5\n";
-
-/// The events of its example.
-const EVENTS: &str = "clock 0\nstart 0\nclock 4\nstart 0\nclock 5\nstart 0\nfinish 0 ok 7\n";
-
-/// The trace of its example.
-const TRACE: &str = "\
-0 submit 0 schedule due 5
-0 clock
-0 start 0 idle
-4 clock
-4 start 0 idle
-5 clock
-5 start 0 task 0 run 0 due 5
-5 finish 0 task 0 run 0 done 7
-";
-
-/// A run by one worker, and what it has to answer and to write.
+/// A run, and what it has to answer and to write.
 #[derive(Clone, Copy)]
-struct Row<'a> {
+struct Run<'a> {
     plan: &'a str,
     limit: u32,
     events: &'a str,
@@ -69,105 +49,54 @@ fn ran(
     (answer, writer.into_inner())
 }
 
-/// Checks the answer and the bytes of a row, read at once and a few bytes at a time.
-fn answers(rt: &(impl AllocGlobal + Abort), row: &Row<'_>) {
-    answers_with(rt, row, 1)
+/// Checks the answer and the bytes of a run by one worker, read at once and a few bytes at a time.
+fn answers(rt: &(impl AllocGlobal + Abort), wanted: &Run<'_>) {
+    answers_with(rt, wanted, 1, wanted.events)
 }
 
-/// Checks a row by this number of workers.
-fn answers_with(rt: &(impl AllocGlobal + Abort), row: &Row<'_>, workers: u8) {
-    for most in [65_536usize, 1, 2, 7] {
-        let (answer, trace) = ran(rt.alloc(), row.plan, workers, row.limit, row.events, most);
-        let events = row.events;
-        assert!(rt; answer == row.answer, "{events}: {answer:?}");
-        assert!(rt; trace.as_slice() == row.trace.as_bytes(), "{events}");
-    }
-}
-
-/// Checks the trace of a plan by one worker.
-fn traces(rt: &(impl AllocGlobal + Abort), plan: &str, events: &str, report: Report, trace: &str) {
-    let row = Row {
+/// Checks a run by this number of workers, which has this name.
+fn answers_with(rt: &(impl AllocGlobal + Abort), wanted: &Run<'_>, workers: u8, name: &str) {
+    let Run {
         plan,
-        limit: 1_000_000,
+        limit,
         events,
-        answer: Ok(report),
+        answer,
         trace,
-    };
-    answers_with(rt, &row, 1)
-}
-
-#[test]
-fn writes_the_trace(rt: HostRuntime) {
-    answers(
-        &rt,
-        &Row {
-            plan: "version = 1",
-            limit: 1_000_000,
-            events: "",
-            answer: Ok(Report {
-                events: 0,
-                lines: 0,
-            }),
-            trace: "",
-        },
-    );
-    answers(
-        &rt,
-        &Row {
-            plan: ONE_DELAY,
-            limit: 1_000_000,
-            events: EVENTS,
-            answer: Ok(Report {
-                events: 7,
-                lines: 8,
-            }),
-            trace: TRACE,
-        },
-    );
-    answers(
-        &rt,
-        &Row {
-            plan: "version = 1
-[[block]]
-call = [
-  { at = 30, op = \"schedule\", name = \"a\", delay = 0 },
-  { at = 50, op = \"schedule\", name = \"b\", delay = 0 },
-]
-",
-            limit: 2,
-            events: "clock 0\nclock 100\n",
-            answer: Ok(Report {
-                events: 2,
-                lines: 4,
-            }),
-            trace: "0 clock\n30 submit 0 schedule due 30\n50 submit 1 schedule due 50\n100 clock\n",
-        },
-    );
+    } = *wanted;
+    for most in [65_536usize, 1, 2, 7] {
+        let (told, written) = ran(rt.alloc(), plan, workers, limit, events, most);
+        assert!(rt; told == answer, "{name}: {told:?}");
+        assert!(rt; written.as_slice() == trace.as_bytes(), "{name}");
+    }
 }
 
 #[test]
 fn ends_at_a_line_that_is_no_event(rt: HostRuntime) {
-    answers(
-        &rt,
-        &Row {
-            plan: "version = 1
-[[block]]
-call = [{ op = \"schedule\", name = \"a\", delay = 0 }]
-",
-            limit: 1_000_000,
-            events: "clock 5\nclock 4\nstart 9\nstart 0\nstart 0\nfinish 0 ok 2\nfinish 0 ok 2\nclock 6",
-            answer: Err(RunError::EventLine(8)),
-            trace: "0 submit 0 schedule due 0
-5 clock
-5 error backward
-5 error no worker
-5 start 0 task 0 run 0 due 0
-5 error busy
-5 finish 0 task 0 run 0 done 2
-5 error not running
-",
-        },
-    );
+    for (events, at, trace) in [
+        (
+            "clock 5\nclock 4\nstart 9\nstart 0\nstart 0\nfinish 0 ok 2\nfinish 0 ok 2\nclock 6",
+            8,
+            "0 submit 0 schedule due 0\n5 clock\n5 error backward\n5 error no worker\n\
+             5 start 0 task 0 run 0 due 0\n5 error busy\n5 finish 0 task 0 run 0 done 2\n\
+             5 error not running\n",
+        ),
+        (
+            "clock 5\nclock 4\nstart 9\nstart 0\nstart 0\nfinish 0 ok 2\nfinish 0 ok 2\ncancel 99\nclock 6",
+            9,
+            ERRORS.trace,
+        ),
+    ] {
+        answers(
+            &rt,
+            &Run {
+                plan: ERRORS.plan,
+                limit: 1_000_000,
+                events,
+                answer: Err(RunError::EventLine(at)),
+                trace,
+            },
+        );
+    }
     for events in [
         "finish 255 ok 18446744073709551615\n\nclock 1\n",
         "finish 255 ok 18446744073709551615\nclock 1\r\nclock 1\n",
@@ -181,7 +110,7 @@ call = [{ op = \"schedule\", name = \"a\", delay = 0 }]
     ] {
         answers(
             &rt,
-            &Row {
+            &Run {
                 plan: "version = 1",
                 limit: 1,
                 events,
@@ -196,32 +125,19 @@ call = [{ op = \"schedule\", name = \"a\", delay = 0 }]
 fn ends_at_the_limit(rt: HostRuntime) {
     answers(
         &rt,
-        &Row {
-            plan: ONE_DELAY,
+        &Run {
+            plan: ONE_DELAY.plan,
             limit: 3,
-            events: EVENTS,
+            events: ONE_DELAY.events,
             answer: Err(RunError::Full),
             trace: "0 submit 0 schedule due 5\n0 clock\n0 start 0 idle\n4 clock\n",
-        },
-    );
-    answers(
-        &rt,
-        &Row {
-            plan: "version = 1",
-            limit: 4_294_967_295,
-            events: "clock 4611686018427387904\nclock 4611686018427387905\n",
-            answer: Ok(Report {
-                events: 2,
-                lines: 2,
-            }),
-            trace: "4611686018427387904 clock\n4611686018427387904 error too far\n",
         },
     );
 }
 
 /// Checks that a run is refused so, with nothing written.
 fn refuses(rt: &(impl AllocGlobal + Abort), plan: &str, workers: u8, limit: u32, fault: RunError) {
-    let (answer, trace) = ran(rt.alloc(), plan, workers, limit, EVENTS, 65_536);
+    let (answer, trace) = ran(rt.alloc(), plan, workers, limit, ONE_DELAY.events, 65_536);
     assert_eq!(rt; answer, Err(fault));
     assert!(rt; trace.is_empty());
 }
@@ -238,16 +154,16 @@ fn of_text(kind: PlanFaultKind) -> RunError {
 #[test]
 fn refuses_workers_limits_and_texts(rt: HostRuntime) -> Result<(), Fail> {
     let toml = of_text(PlanFaultKind::Toml);
-    refuses(&rt, ONE_DELAY, 0, 1, RunError::Workers);
-    refuses(&rt, ONE_DELAY, 65, 1, RunError::Workers);
-    refuses(&rt, ONE_DELAY, 255, 0, RunError::Workers);
-    refuses(&rt, ONE_DELAY, 64, 0, RunError::Limit);
+    refuses(&rt, ONE_DELAY.plan, 0, 1, RunError::Workers);
+    refuses(&rt, ONE_DELAY.plan, 65, 1, RunError::Workers);
+    refuses(&rt, ONE_DELAY.plan, 255, 0, RunError::Workers);
+    refuses(&rt, ONE_DELAY.plan, 64, 0, RunError::Limit);
     refuses(&rt, "version =", 0, 0, toml);
     refuses(&rt, "version =", 1, 1, toml);
     refuses(&rt, "", 1, 1, of_text(PlanFaultKind::Version));
     let long = " ".repeat(rt.alloc(), 1_048_577)?;
     refuses(&rt, long.as_str(), 1, 1, of_text(PlanFaultKind::TooLong));
-    let (answer, _) = ran(rt.alloc(), ONE_DELAY, 64, 7, EVENTS, 65_536);
+    let (answer, _) = ran(rt.alloc(), ONE_DELAY.plan, 64, 7, ONE_DELAY.events, 65_536);
     assert!(rt; answer.is_ok());
     Ok(())
 }
@@ -260,7 +176,7 @@ fn refuses_plans(rt: HostRuntime) {
         "version = 1\n[[block]]\nat = -1\n[[block.call]]\nop = \"schedule\"\nname = \"a\"\ndelay = 5\n",
         "version = 1\n[[block]]\n[[block]]\ntimes = 2\n",
     ] {
-        let (answer, trace) = ran(rt.alloc(), plan, 1, 1, EVENTS, 65_536);
+        let (answer, trace) = ran(rt.alloc(), plan, 1, 1, ONE_DELAY.events, 65_536);
         assert!(rt;
             matches!(answer, Err(RunError::Plan(fault)) if fault.kind != PlanFaultKind::Memory),
             "{plan}: {answer:?}"

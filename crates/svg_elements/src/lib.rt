@@ -5,11 +5,18 @@
 //! Each element is a small value that prints itself:
 //!
 //! ```rust
-//! format!(in alloc; "{}", Opening { width: 200, height: 100 })?;    // "<svg .. width=\"200\" height=\"100\" ..>", the style, the shapes
-//! let bar = Rectangle { fill: Fill::Done, left: 1, top: 2, width: 30, height: 4, tip: "a & b" };
-//! format!(in alloc; "{bar}")?;
-//! // <rect class="done" x="1" y="2" width="30" height="4"><title>a &amp; b</title></rect>
-//! format!(in alloc; "{}", Closing)?;                                // "</svg>\n"
+//! let bar = Rectangle {
+//!     fill: Fill::Done,
+//!     left: 1,
+//!     top: 2,
+//!     width: 30,
+//!     height: 4,
+//!     tip: "a & b",
+//! };
+//! let text = format!(in alloc; "{bar}")?;
+//! let front = "<rect class=\"done\" x=\"1\" y=\"2\" width=\"30\" height=\"4\">";
+//! assert!(rt; text.starts_with(front));
+//! assert!(rt; text.ends_with("<title>a &amp; b</title></rect>\n"));
 //! ```
 //!
 //! # Behaviour
@@ -47,7 +54,7 @@
 //!
 //! An element takes no memory. A text is gone over character by character.
 //!
-//! The tests stand in `src/tests.rt`.
+//! The tests stand in `src/tests.rt`, and the lines above in `src/tests/usage.rt`.
 #![tactic(auto)]
 
 mod document;

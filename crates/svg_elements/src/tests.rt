@@ -1,3 +1,5 @@
+mod usage;
+
 use crate::{
     Closing, Escaped, Face, Fill, GLYPHS, Glyph, Label, Mark, Opening, Rectangle, STYLE, Segment,
     Stroke,

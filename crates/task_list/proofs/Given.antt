@@ -7,7 +7,7 @@ use Rattle.byte_ends.specs.Ends.{WritesText}
 use Rattle.sched_engine.specs.Pieces.{Gives, Output}
 use Rattle.sched_engine.proofs.Runs.{gave, gave_front}
 use Rattle.task_list.specs.Lines.{submission_line}
-use Rattle.task_list.specs.Submissions.{Submitted}
+use Rattle.plan_compile.specs.Submissions.{Submitted}
 use Rattle.task_list.specs.own.Pages.{MakesRoom}
 
 -- no text, with these contents

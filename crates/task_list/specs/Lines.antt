@@ -5,7 +5,7 @@ use Rattle.std.specs.Prelude.{ℕ, List, ◌++◌, Option, Some, None, codes, fl
 use Rattle.std.specs.Fmt.{decimal}
 use Rattle.plan_read.specs.Plans.{PlanTree}
 use Rattle.trace_text.specs.Spelling.{kind_text}
-use Rattle.task_list.specs.Submissions.{Submitted, submissions_of_plan}
+use Rattle.plan_compile.specs.Submissions.{Submitted, submissions_of_plan}
 
 -- when the first run is due, in words
 abbrev pub due_text : Option ℕ → List ℕ

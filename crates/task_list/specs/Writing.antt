@@ -4,9 +4,8 @@ use Rattle.std.specs.Prelude.{◌≡◌, ℕ, List, Option, Result, Ok, Err, tak
 use Rattle.std.specs.Io.KnownBytes.{Appends, Keeps}
 use Rattle.plan_read.specs.Plans.{PlanTree}
 use Rattle.plan_read.specs.Texts.{TextWrites}
-use Rattle.sched_engine.specs.declared.report.CodeError.TheVariants as c
-use Rattle.sched_engine.specs.declared.report.RunError.{RunError}
-use Rattle.sched_engine.specs.declared.report.RunError.TheVariants as x
+use Rattle.sched_engine.specs.declared.report.ListingError.{ListingError}
+use Rattle.sched_engine.specs.declared.report.ListingError.TheVariants as l
 use Rattle.sched_engine.specs.CodeTexts.{RefusesText}
 use Rattle.task_list.specs.Lines.{tasks_text}
 
@@ -17,9 +16,7 @@ pub record AreTasksOfText (text tasks : List ℕ) : Type 0 where
   pub lines : tasks ≡ tasks_text plan
 
 -- the whole of the lines was written, or nothing, or a front of them where the writer was at fault
-abbrev pub TasksWritten : Result (Unit {0}) RunError → List ℕ → Option (List ℕ) → Option (List ℕ) → Type 0
+abbrev pub TasksWritten : Result (Unit {0}) ListingError → List ℕ → Option (List ℕ) → Option (List ℕ) → Type 0
 TasksWritten (Ok done) text old new = (lines : List ℕ) × AreTasksOfText text lines × Appends old new lines
-TasksWritten (Err x.Write) text old new = (lines : List ℕ) × AreTasksOfText text lines × (n : ℕ) × Appends old new (take n lines)
-TasksWritten (Err (x.Plan fault)) text old new = RefusesText text (c.Plan fault) × Keeps old new
-TasksWritten (Err x.Memory) text old new = RefusesText text c.Memory × Keeps old new
-TasksWritten (Err _) text old new = ⊥
+TasksWritten (Err l.Write) text old new = (lines : List ℕ) × AreTasksOfText text lines × (n : ℕ) × Appends old new (take n lines)
+TasksWritten (Err (l.Code error)) text old new = RefusesText text error × Keeps old new

@@ -1,22 +1,26 @@
-//! The tasks of a plan: its submissions, each with the number and the name of its task.
+//! The tasks of a plan: a line for each of its submissions, with the number and the name of its task.
 //!
 //! # Usage
 //!
 //! ```rust
-//! write_tasks(alloc, text, &mut writer)?;    // "0 backup schedule submitted 0 due 5\n1 beat rate submitted 0 due 10\n"
+//! let text = b"version = 2\n[[block]]\ncall = [ { op = \"execute\", name = \"backup\" } ]\n";
+//! let mut writer = Writing::new(Vec::new(alloc));
+//! write_tasks(alloc, text, &mut writer)?;
+//! let lines = writer.into_inner();
+//! assert_eq!(rt;
+//!     lines.as_slice(),
+//!     b"0 backup schedule submitted 0 due 0\n".as_slice()
+//! );
 //!
 //! let plan = read_plan(alloc, text)?;
-//! for submission in Submissions::new(&plan) {
-//!     submission.name.as_str();              // "backup", then "beat"
-//! }
-//! let names = names_of_tasks(alloc, &plan)?; // the name of task 1 is names[1]
+//! let names = names_of_tasks(alloc, &plan)?;
+//! assert_eq!(rt; names.first().map(|name| name.as_str()), Some("backup")); // of task 0
 //! ```
 //!
 //! # Behaviour
 //!
-//! Submissions are numbered 0, 1, .. in the order in which a plan makes its calls, refused ones too. A repeated block makes each
-//! of its submissions once in each iteration, so a name of the text may be that of many tasks. They are exactly the submissions
-//! among the plan's calls ([`submissions_are_those_of_the_calls`]).
+//! The lines are those of the plan's [`Submissions`](plan_compile::Submissions), in ascending number: a repeated block makes each
+//! of its submissions once in each iteration. [`names_of_tasks`](plan_compile::names_of_tasks) gives their names alone.
 //!
 //! | A submission | Its line |
 //! |---|---|
@@ -29,36 +33,19 @@
 //!
 //! # Errors
 //!
-//! [`write_tasks`] answers [`RunError::Plan`](sched_engine::RunError::Plan) with the fault of its text, or
-//! [`RunError::Memory`](sched_engine::RunError::Memory), with nothing written, and
-//! [`RunError::Write`](sched_engine::RunError::Write) after a front of the lines. [`names_of_tasks`] fails for want of memory
-//! alone.
+//! [`write_tasks`] answers [`ListingError::Code`](sched_engine::ListingError::Code) with the fault of its text, or want of memory,
+//! with nothing written, and [`ListingError::Write`](sched_engine::ListingError::Write) after a front of the lines.
 //!
 //! # Memory and cost
 //!
-//! [`Submissions`] takes no memory: it walks over blocks, iterations and calls. [`write_tasks`] takes the plan, and 64 KiB for
-//! the text that is not written yet, however often a block is made. Each step costs the same; a block without submissions is
-//! walked over iteration by iteration.
+//! [`write_tasks`] takes the plan, and 64 KiB for the text that is not written yet, however often a block is made.
 //!
 //! The tests stand in `src/tests.rt` and `src/tests`.
 #![tactic(auto)]
 
-mod laws;
-mod names;
 mod page;
-mod place;
-mod submission;
-mod submissions;
 #[cfg(test)]
 mod tests;
-mod words;
 mod writing;
 
-pub use laws::{
-    submissions_are_named_as_written, submissions_are_numbered_in_order,
-    submissions_are_those_of_the_calls,
-};
-pub use names::names_of_tasks;
-pub use submission::Submission;
-pub use submissions::Submissions;
 pub use writing::write_tasks;

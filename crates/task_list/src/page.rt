@@ -4,17 +4,17 @@ ghost use Rattle.std.specs.Prelude.{◌≡◌, ℕ, ◌+◌, ◌≤◌, ◌↔�
 ghost use Rattle.std.specs.Fmt.{decimal};
 ghost use Rattle.task_list.specs.Lines.{due_text, submission_line};
 
-use crate::submission::Submission;
-use crate::words::kind_text;
 use itoa::Buffer;
+use plan_compile::Submission;
 use std::alloc::{AllocError, Allocator};
 use std::marker::Model;
+use trace_text::kind_word;
 
 /// How many bytes a page has room for.
 pub const PAGE: usize = 65_536;
 
 /// How many bytes are room enough for any line. The longest has 104, with its newline.
-pub const LINE_ROOM: usize = 128;
+pub const TASK_LINE_ROOM: usize = 128;
 
 /// A text of lines. It has room for [`PAGE`] bytes, and takes no memory once it is made. Contracts see the text.
 #[derive(Drop)]
@@ -50,11 +50,11 @@ impl<A: Allocator> Page<A> {
         self.bytes.as_slice()
     }
 
-    /// Whether there is room for [`LINE_ROOM`] bytes, and so for any line.
+    /// Whether there is room for [`TASK_LINE_ROOM`] bytes, and so for any line.
     pub fn has_room(&self) -> bool
-        ensures { IsTrue result ↔ (length self.now + LINE_ROOM ≤ PAGE) }
+        ensures { IsTrue result ↔ (length self.now + TASK_LINE_ROOM ≤ PAGE) }
     {
-        self.bytes.len() + LINE_ROOM <= PAGE
+        self.bytes.len() + TASK_LINE_ROOM <= PAGE
     }
 
     /// Lets go of the text.
@@ -66,14 +66,14 @@ impl<A: Allocator> Page<A> {
 
     /// Appends the line of a submission, with its newline.
     pub fn put_line(&mut self, submission: &Submission<'_>)
-        requires { length self.old + LINE_ROOM ≤ PAGE }
+        requires { length self.old + TASK_LINE_ROOM ≤ PAGE }
         ensures { self.new ≡ self.old ++ submission_line submission.now }
     {
         self.put_number(u64::from(submission.task));
         self.put(b" ");
         self.put(submission.name.as_str().as_bytes());
         self.put(b" ");
-        self.put(kind_text(submission.kind).as_bytes());
+        self.put(kind_word(submission.kind).as_bytes());
         self.put(b" submitted ");
         self.put_number(submission.moment);
         self.put(b" ");

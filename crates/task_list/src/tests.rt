@@ -1,12 +1,10 @@
 mod memory;
-mod rows;
+mod plans;
+mod usage;
 mod writers;
 
-use crate::names::names_of_tasks;
-use crate::submissions::Submissions;
 use crate::writing::write_tasks;
 use byte_ends::Writing;
-use executor_core::Kind;
 use plan_read::{PlanFault, PlanFaultKind, read_plan};
 use sched_engine::RunError;
 use std::alloc::Global;
@@ -56,7 +54,7 @@ const ITS_TASKS: &str = "\
 /// What the writing of a plan's tasks answered, and what it wrote.
 fn written(alloc: Global, plan: &str) -> (Result<(), RunError>, Vec<u8>) {
     let mut writer = Writing::new(Vec::new(alloc));
-    let answer = write_tasks(alloc, plan.as_bytes(), &mut writer);
+    let answer = write_tasks(alloc, plan.as_bytes(), &mut writer).map_err(RunError::from);
     (answer, writer.into_inner())
 }
 
@@ -65,49 +63,4 @@ fn writes(rt: &(impl AllocGlobal + Abort), plan: &str, lines: &str) {
     let (answer, text) = written(rt.alloc(), plan);
     assert!(rt; answer == Ok(()), "{plan}: {answer:?}");
     assert!(rt; text.as_slice() == lines.as_bytes(), "{plan}");
-}
-
-#[test]
-fn names_each_task(rt: HostRuntime) -> Result<(), Fail> {
-    let plan = read_plan(rt.alloc(), EACH_KIND.as_bytes())?;
-    let names = names_of_tasks(rt.alloc(), &plan)?;
-    let expected = [
-        "once", "at-once", "by_rate", "F", "once", "at-once", "by_rate", "F", "never", "nor-this",
-    ];
-    assert_eq!(rt; names.len(), expected.len());
-    for (name, text) in names.iter().zip(expected.iter()) {
-        assert_eq!(rt; name.as_str(), *text);
-    }
-    Ok(())
-}
-
-#[test]
-fn gives_each_submission(rt: HostRuntime) -> Result<(), Fail> {
-    let plan = read_plan(rt.alloc(), EACH_KIND.as_bytes())?;
-    let mut submissions = Submissions::new(&plan);
-    let first = submissions.next().ok_or("none")?;
-    assert_eq!(rt; (first.task, first.kind), (0, Kind::Schedule));
-    assert_eq!(rt; (first.moment, first.due), (100, Some(150)));
-    assert_eq!(rt; first.name.as_str(), "once");
-    let told = format!(in rt.alloc(); "{first}")?;
-    assert_eq!(rt; told.as_str(), "0 once schedule submitted 100 due 150");
-    let mut count = 0u32;
-    let mut illegal = 0u32;
-    for submission in submissions {
-        count = count.saturating_add(1);
-        illegal = illegal.saturating_add(u32::from(submission.due.is_none()));
-        assert_eq!(rt; submission.task, count);
-    }
-    assert_eq!(rt; (count, illegal), (9, 2));
-    Ok(())
-}
-
-#[test]
-fn tells_an_illegal_submission(rt: HostRuntime) -> Result<(), Fail> {
-    let plan = read_plan(rt.alloc(), EACH_KIND.as_bytes())?;
-    let mut submissions = Submissions::new(&plan);
-    let never = submissions.nth(8).ok_or("none")?;
-    let told = format!(in rt.alloc(); "{never}")?;
-    assert_eq!(rt; told.as_str(), "8 never rate submitted 200 refused illegal");
-    Ok(())
 }

@@ -9,22 +9,22 @@ ghost use Rattle.task_list.specs.Writing.{TasksWritten};
 ghost use Rattle.task_list.specs.own.Pages.{MakesRoom};
 
 use crate::page::Page;
-use crate::submissions::Submissions;
 use byte_ends::{Sink, write_text};
+use plan_compile::Submissions;
 use plan_read::{HeapAllocator, Plan, read_plan};
-use sched_engine::{CodeError, RunError};
+use sched_engine::{CodeError, ListingError};
 use std::alloc::Allocator;
 
 /// Writes a line for each submission of a plan, in ascending number.
 ///
-/// `plan_text` is the plan's TOML, at most 1,048,576 bytes. On [`RunError::Plan`] and [`RunError::Memory`] nothing is written,
-/// on [`RunError::Write`] a front of the lines. No other error comes. A write is tried again as by
-/// [`run`](sched_engine::run). Moments are nanoseconds. Nothing is flushed.
+/// `plan_text` is the plan's TOML, at most 1,048,576 bytes. On [`ListingError::Code`], as where the text is no plan, nothing is
+/// written, on [`ListingError::Write`] a front of the lines. A write is tried again as by [`run`](sched_engine::run). Moments are
+/// nanoseconds. Nothing is flushed.
 pub fn write_tasks<A: HeapAllocator, W: Sink>(
     alloc: A,
     plan_text: &[u8],
     writer: &mut W,
-) -> Result<(), RunError>
+) -> Result<(), ListingError>
     ensures tasks { TasksWritten result plan_text.now (W.contents writer.old)
         (W.contents writer.new) }
     ensures write { CountsListing result (W.failed writer.old) (W.fruitless writer.old)
@@ -35,7 +35,7 @@ pub fn write_tasks<A: HeapAllocator, W: Sink>(
     if write_lines(page, &plan, writer) {
         Ok(())
     } else {
-        Err(RunError::Write)
+        Err(ListingError::Write)
     }
 }
 

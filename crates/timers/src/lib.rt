@@ -8,20 +8,26 @@
 //!
 //! ```rust
 //! let mut timers = Timers::new(alloc, 2)?;
-//! timers.schedule(0, 5, 70)?;      // task 0, with 70, is accepted, and due at 5
-//! timers.at_rate(0, 3, 10, 71)?;   // task 1, with 71, is due at 3, 13, 23 and so on
-//! timers.next_due();               // Some(3): the moment to wait for
 //!
-//! timers.poll(3, 0)?;                       // run 0 of task 1, with 71, which was due at 3
-//! timers.poll(4, 1)?;                       // None: nothing is due
-//! timers.finish(4, 0, Ending::Value(1))?;   // task 1, with 71: Outcome::Again(13)
-//! timers.poll(5, 1)?;                       // run 0 of task 0, with 70
-//! timers.finish(6, 1, Ending::Value(2))?;   // Outcome::Done(2)
+//! timers.schedule(0, 5, 70)?; // task 0, with 70, is accepted, and due at 5
+//! timers.at_rate(0, 3, 10, 71)?; // task 1, with 71, is due at 3, 13, 23 and so on
+//! assert_eq!(rt; timers.next_due(), Some(3)); // the moment to wait for
 //!
-//! timers.shut_down_now(7)?;
-//! timers.ended();                  // task 1, which waited
-//! timers.ended_user_data(0);       // Some(71)
-//! timers.execute(8, 72)?;          // rejected: a number, 2, and no task
+//! assert_eq!(rt; timers.poll(3, 0)?.map(|run| run.user_data), Some(71)); // task 1
+//! assert!(rt; timers.poll(4, 1)?.is_none()); // nothing is due
+//! let finished = timers.finish(4, 0, Ending::Value(1))?;
+//! assert_eq!(rt; finished.outcome, Outcome::Again(13));
+//! assert_eq!(rt; timers.poll(5, 1)?.map(|run| run.user_data), Some(70)); // task 0
+//! let finished = timers.finish(6, 1, Ending::Value(2))?;
+//! assert_eq!(rt;
+//!     (finished.user_data, finished.outcome),
+//!     (70, Outcome::Done(2))
+//! );
+//!
+//! timers.shut_down_now(7)?; // ends task 1, which waits
+//! assert_eq!(rt; timers.ended().len(), 1);
+//! assert_eq!(rt; timers.ended_user_data(0), Some(71));
+//! assert_eq!(rt; timers.execute(8, 72)?, Submitted::Rejected { number: 2 });
 //! ```
 //!
 //! # Behaviour

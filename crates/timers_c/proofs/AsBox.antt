@@ -10,7 +10,7 @@ use Rattle.std_alloc.proofs.BoxSteps.Form.{Bx}
 use Rattle.timers_c.proofs.session.Session.TheLaws as session_laws
 use Rattle.c_slot.specs.contracts.kept.Kept as kept
 use Rattle.timers_c.specs.Slots.{SessionRow}
-use Rattle.timers_c.specs.contracts.held.Held as held
+use Rattle.timers_c.specs.contracts.held.SessionPointer as held
 
 abbrev pub E : Bx
 E = record { row = SessionRow; laws = session_laws.the_row_laws; al = record { row = heap.the_row; laws = heap_laws.the_row_laws; g = ghosts; d = dict; drops = impl [] tnil dnil } }

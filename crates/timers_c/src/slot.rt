@@ -2,7 +2,7 @@
 ghost use Rattle.std.specs.Prelude.{◌≡◌, true, false, is_some, IfSome, IfNone};
 ghost use Rattle.timers_c.specs.own.Kept.{no_session};
 
-use crate::held::Held;
+use crate::held::SessionPointer;
 use crate::session::Session;
 use c_slot::Kept;
 use std::alloc::Global;
@@ -14,7 +14,7 @@ use std::alloc::Global;
 #[derive(Drop)]
 pub struct Slot {
     /// The timers.
-    pub held: Held,
+    pub held: SessionPointer,
     /// Whether there are timers.
     pub full: bool,
     pub ghost agrees: { held.full ≡ full },
@@ -27,7 +27,7 @@ impl Slot {
         ensures value { result.held.value ≡ no_session }
     {
         Slot {
-            held: Held::nothing(alloc),
+            held: SessionPointer::nothing(alloc),
             full: false,
         }
     }
@@ -52,7 +52,7 @@ impl Slot {
         ensures full { self.new.full ≡ true }
         ensures value { self.new.held.value ≡ session.value }
     {
-        self.held = Held::of(Kept::of(session));
+        self.held = SessionPointer::of(Kept::of(session));
         self.full = true;
     }
 }

@@ -12,13 +12,13 @@ use Rattle.executor_core.specs.Histories.{HistoryEntry, IsHistoryOf}
 use Rattle.executor_core.specs.Flows.{answer_line, lines_of}
 use Rattle.executor_laws.specs.Positions.{finishes_by}
 use Rattle.trace_check.specs.Findings.{Conforms}
+use Rattle.trace_check.specs.Lines.{AreSpelled}
 use Rattle.trace_draw.specs.declared.bars.Bar.{Bar}
 use Rattle.trace_draw.specs.declared.bars.Finish.{Finish}
 use Rattle.trace_draw.specs.declared.window.Window.{Window}
 use Rattle.trace_draw.specs.Bars.{finish_of, bars_of, shows_bar}
 use Rattle.trace_draw.specs.Marks.{is_mark, marks_of, shows_line}
 use Rattle.trace_draw.specs.Pictures.{marks_within, picture_of}
-use Rattle.trace_draw.specs.Texts.{AreSpelled}
 
 -- these are the lines of a history that means the calls
 pub record IsTraceOf (calls : List Planned) (workers : ℕ) (lines : List Line) : Type 0 where

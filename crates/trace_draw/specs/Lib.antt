@@ -3,7 +3,6 @@ pub mod Marks
 pub mod Ticks
 pub mod Scale
 pub mod Pictures
-pub mod Texts
 pub mod Whole
 pub mod Laws
 pub mod AxisLaws

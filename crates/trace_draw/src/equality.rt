@@ -2,7 +2,7 @@
 ghost use Rattle.std.specs.Prelude.{◌≡◌, ◌↔◌, true};
 
 use crate::bars::{Bar, Finish};
-use crate::error::{LinesError, PictureError};
+use crate::error::PictureError;
 use crate::ticks::Tick;
 use crate::window::Window;
 
@@ -29,9 +29,4 @@ pub fn tick_equality_tells()
 /// Two errors of a picture compare as equal exactly when they are the same.
 pub fn picture_error_equality_tells()
     ensures { (a b : PictureError) → (⟦<PictureError as PartialEq>⟧.eq a b ≡ true) ↔ (a ≡ b) }
-{}
-
-/// Two errors of a text compare as equal exactly when they are the same.
-pub fn lines_error_equality_tells()
-    ensures { (a b : LinesError) → (⟦<LinesError as PartialEq>⟧.eq a b ≡ true) ↔ (a ≡ b) }
 {}

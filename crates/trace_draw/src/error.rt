@@ -1,4 +1,4 @@
-use std::alloc::{AllocError, AllocFailed};
+use std::alloc::AllocError;
 use thiserror::Error;
 
 /// Why a picture was not made.
@@ -23,30 +23,5 @@ impl From<AllocError> for PictureError {
 
     fn from(_: AllocError) -> PictureError {
         PictureError::Memory
-    }
-}
-
-/// Why the lines of a text were not read.
-#[derive(Clone, Copy, Debug, PartialEq, Eq, Error)]
-pub enum LinesError {
-    /// A line is no line of a trace, or has no newline.
-    #[error("line {line} is no line of a trace")]
-    NotATrace {
-        /// The first such line, counted from 1.
-        line: u64,
-    },
-    /// The memory was refused.
-    #[error("out of memory")]
-    Memory,
-}
-
-impl<T: Drop> From<AllocFailed<T>> for LinesError {
-    ghost use Rattle.std.specs.Prelude.{◌≡◌};
-    ghost use Rattle.trace_draw.specs.declared.error.LinesError.TheVariants.{Memory};
-
-    ghost from_gives = { λ _ e. e ≡ Memory };
-
-    fn from(_: AllocFailed<T>) -> LinesError {
-        LinesError::Memory
     }
 }

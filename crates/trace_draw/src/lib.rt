@@ -2,18 +2,23 @@
 //!
 //! # Usage
 //!
-//! [`lines_of`] reads a trace, [`whole_window`] tells the part of time that it takes, and [`picture`] makes the picture. [`place`]
-//! says where a moment stands in it. No picture is drawn here: a layer above turns the value into text.
+//! [`check_and_read`](trace_check::check_and_read) reads the lines of a trace, [`whole_window`] tells the part of time that they
+//! take, and [`picture`] makes the picture. [`place`] says where a moment stands in it. No picture is drawn here: a layer above
+//! turns the value into text.
 //!
 //! ```rust
-//! let text = b"0 submit 0 schedule due 5\n5 clock\n5 start 0 task 0 run 0 due 5\n9 clock\n9 finish 0 task 0 run 0 done 7\n";
-//! let lines = lines_of(alloc, text)?;
-//! let window = whole_window(&lines);                 // from 0 to 9
+//! let plan =
+//!     b"version = 2\n[[block]]\ncall = [ { op = \"schedule\", name = \"a\", delay = 5 } ]\n";
+//! let plan = read_plan(alloc, plan)?;
+//! let text = "0 submit 0 schedule due 5\n5 clock\n5 start 0 task 0 run 0 due 5\n\
+//!     9 clock\n9 finish 0 task 0 run 0 done 7\n";
+//! let (_, lines) = check_and_read(alloc, &plan, 1, text.as_bytes())?;
+//! let window = whole_window(&lines); // from 0 to 9
 //! let shown = picture(alloc, &lines, 1, window, 2_000)?;
-//! shown.bars();     // one: worker 0, task 0, run 0, due at 5, from 5 to its finish at 9, done with 7
-//! shown.marks();    // three: the submission, and two clocks
-//! shown.ticks();    // five: 0 ns, 2 ns, and so on to 8 ns
-//! place(window, 900, 5);                             // 500
+//! assert_eq!(rt; shown.bars().len(), 1); // from the start at 5 to the finish at 9
+//! assert_eq!(rt; shown.marks().len(), 3); // the submission, and two clocks
+//! assert_eq!(rt; shown.ticks().len(), 5); // 0 ns, 2 ns, and so on to 8 ns
+//! assert_eq!(rt; place(window, 900, 5), 500);
 //! ```
 //!
 //! # Behaviour
@@ -45,14 +50,13 @@
 //! # Errors
 //!
 //! [`PictureError::Crowded`] tells how many marks the window shows, where they are more than asked for, and else how many bars. It
-//! is found before any memory is taken, and comes exactly then. [`LinesError::NotATrace`] tells the first line of a text that is no
-//! line of a trace. [`PictureError::Memory`] and [`LinesError::Memory`] come where a growth was refused. Nothing is kept after an
-//! error.
+//! is found before any memory is taken, and comes exactly then. [`PictureError::Memory`] comes where a growth was refused. Nothing
+//! is kept after an error.
 //!
 //! # Memory and cost
 //!
 //! A picture takes memory for what it shows alone. Lines are gone over twice for marks and twice for bars, from the last one to the
-//! first, with a table of 256 workers: time grows with the number of lines, whatever they are. A text is read in one pass.
+//! first, with a table of 256 workers: time grows with the number of lines, whatever they are.
 //!
 //! # Tests
 //!
@@ -67,7 +71,6 @@ mod ends;
 mod equality;
 mod error;
 mod laws;
-mod lines;
 mod marks;
 mod scale;
 mod shown;
@@ -85,16 +88,15 @@ pub use axis_laws::{
 pub use bars::{Bar, Finish};
 pub use drawing::picture;
 pub use equality::{
-    bar_equality_tells, finish_equality_tells, lines_error_equality_tells,
-    picture_error_equality_tells, tick_equality_tells, window_equality_tells,
+    bar_equality_tells, finish_equality_tells, picture_error_equality_tells, tick_equality_tells,
+    window_equality_tells,
 };
-pub use error::{LinesError, PictureError};
+pub use error::PictureError;
 pub use laws::{
     bars_are_in_lanes, bars_do_not_overlap, bars_meet_the_window, bars_start,
     conforming_texts_are_traces, finishes_are_counted, finishes_are_their_own, lines_are_counted,
     lines_have_marks, marks_are_lines, moments_do_not_fall, no_run_has_two_bars, starts_have_bars,
 };
-pub use lines::lines_of;
 pub use scale::place;
 pub use shown::Picture;
 pub use ticks::Tick;

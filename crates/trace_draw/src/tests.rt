@@ -3,14 +3,15 @@ mod axes;
 mod heaps;
 mod scales;
 mod shown;
-mod texts;
+mod usage;
 mod windows;
 
-use crate::{Picture, PictureError, Window, lines_of, picture};
+use crate::{Picture, PictureError, Window, picture};
 use executor_core::Line;
 use std::alloc::Global;
 use std::process::Abort;
 use std::test::Fail;
+use trace_text::split_line;
 
 /// A worker that runs two tasks, one of them twice, beside another that is still at work at the end.
 const TRACE: &str = "\
@@ -30,7 +31,19 @@ const TRACE: &str = "\
 
 /// The lines of a text, which is one of lines.
 fn lines(rt: &impl AllocGlobal, text: &str) -> Result<Vec<Line>, Fail> {
-    Ok(lines_of(rt.alloc(), text.as_bytes())?)
+    let mut lines = Vec::new(rt.alloc());
+    let mut rest = text.as_bytes();
+    for _ in 0..text.len() {
+        let Some((line, behind)) = split_line(rest) else {
+            break;
+        };
+        lines.push(line)?;
+        rest = behind;
+    }
+    if !rest.is_empty() {
+        return Err(Fail::from("no line"));
+    }
+    Ok(lines)
 }
 
 /// A window that is one.

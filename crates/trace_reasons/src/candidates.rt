@@ -1,7 +1,6 @@
 //! Lines that may be wanted where a text breaks.
 
 use crate::asked::Asked;
-use crate::places::lines_before;
 use crate::replay::Replay;
 use crate::scene::Scene;
 use executor_core::{Answer, EventError, Happening, Line, Message};
@@ -29,8 +28,7 @@ impl<A: Allocator + Copy, B: Allocator> Scene<'_, '_, A, B> {
 
     /// The executor behind the lines before the break. `Err` is a refused growth.
     fn replay(&self) -> Result<Replay<A>, AllocError> {
-        let front = lines_before(self.text, self.line);
-        Replay::over(self.alloc, self.plan, self.workers, front)
+        Replay::over(self.alloc, self.plan, self.workers, self.before)
     }
 
     /// Adds what is answered to each of some happenings. `Err` is a refused growth.

@@ -13,12 +13,12 @@ use crate::scene::Scene;
 use line_reasons::{LineFault, line_fault};
 use plan_read::Plan;
 use std::alloc::{AllocError, Allocator};
-use trace_check::{CheckError, Finding, check};
+use trace_check::{CheckError, Finding, check_and_read};
 use trace_text::read_line;
 
 /// Why a text is no whole trace of a plan with this many workers, 1 to 64; none where it is one.
 ///
-/// The text has at most [`MOST_BYTES`](trace_check::MOST_BYTES) bytes. The line is that of [`check`]. The errors are
+/// The text has at most [`MOST_BYTES`](trace_check::MOST_BYTES) bytes. The line is that of [`check`](trace_check::check). The errors are
 /// [`CheckError::Workers`] exactly where the number of workers is not 1 to 64, and else [`CheckError::Memory`].
 pub fn reason_of_trace<'t, A: Allocator + Copy, B: Allocator>(
     alloc: A,
@@ -45,7 +45,8 @@ pub fn reason_of_trace<'t, A: Allocator + Copy, B: Allocator>(
     ensures others { IfOk result
         (λ o. IfSome o (λ r. AreConforming (calls_of_plan plan.now) text.now r.workers.items)) }
 {
-    match check(alloc, plan, workers, text)? {
+    let (finding, before) = check_and_read(alloc, plan, workers, text)?;
+    match finding {
         Finding::Conforms => Ok(None),
         Finding::Breaks(line) => {
             let scene = Scene {
@@ -53,6 +54,7 @@ pub fn reason_of_trace<'t, A: Allocator + Copy, B: Allocator>(
                 plan,
                 workers,
                 text,
+                before: &before,
                 line,
             };
             match scene.reason() {

@@ -3,13 +3,14 @@
 //! # Usage
 //!
 //! ```rust
-//! let plan = read_plan(alloc, plan_text)?;
-//! let trace = b"0 submit 0 schedule due 5\n5 clock\n5 start 0 idle\n";
-//! match reason_of_trace(alloc, &plan, 1, trace)? {
-//!     None => println!(rt; "conforms")?,
-//!     Some(reason) => eprintln!(rt; "{}", reason.in_file("trace.txt"))?,
-//! }
-//! // trace.txt:3: "5 start 0 idle": breaks; "5 start 0 task 0 run 0 due 5" could stand here
+//! let plan = read_plan(alloc, b"version = 2\n")?; // of no calls
+//! assert!(rt; reason_of_trace(alloc, &plan, 1, b"5 clock\n")?.is_none());
+//! let reason = reason_of_trace(alloc, &plan, 1, b"5 clock\n4 clock\n")?;
+//! let reason = reason.ok_or("no reason")?;
+//! let told = reason.in_file("trace.txt").to_string(alloc)?;
+//! let wanted = "trace.txt:2: \"4 clock\": breaks; \
+//!     \"5 error backward\" or \"5 clock\" could stand here";
+//! assert_eq!(rt; told.as_str(), wanted);
 //! ```
 //!
 //! # Behaviour
@@ -72,10 +73,10 @@
 //!
 //! # Memory and cost
 //!
-//! A text that conforms is checked once. One that breaks is checked once more for each other number of workers, up to its break
-//! there. Its lines before the break are read at most six times to find lines that may be wanted, at most four, and once more with
-//! each of these, until three are told, to see whether it could stand; for that they are copied. A reason borrows the line that
-//! stands there from the text, and owns the rest.
+//! A text is checked once, and its lines are kept meanwhile, at least 32 bytes each. One that breaks is checked once more for each other
+//! number of workers, up to its break there. An executor takes its lines before the break at most six times to find lines that may
+//! be wanted, at most four, and they are checked once more with each of these, until three are told, to see whether it could stand;
+//! for that their text is copied. A reason borrows the line that stands there from the text, and owns the rest.
 #![tactic(auto)]
 
 mod asked;

@@ -5,7 +5,6 @@ use plan_compile::compile;
 use plan_read::Plan;
 use sched_time::Ending;
 use std::alloc::{AllocError, Allocator};
-use trace_text::split_line;
 
 /// The executor of a plan, behind the lines of a trace.
 #[derive(Drop)]
@@ -18,12 +17,12 @@ pub struct Replay<A: Allocator> {
 }
 
 impl<A: Allocator> Replay<A> {
-    /// The executor behind the lines of a text, as far as the plan allows them. `Err` is a refused growth.
+    /// The executor behind these lines, which the plan allows. `Err` is a refused growth.
     pub fn over<B: Allocator>(
         alloc: A,
         plan: &Plan<B>,
         workers: u8,
-        text: &[u8],
+        lines: &[Line],
     ) -> Result<Replay<A>, AllocError>
     where
         A: Copy,
@@ -35,13 +34,8 @@ impl<A: Allocator> Replay<A> {
             answer: Vec::new(alloc),
             met: 0,
         };
-        let mut rest = text;
-        for _ in 0..text.len() {
-            let Some((line, behind)) = split_line(rest) else {
-                break;
-            };
-            replay.take(&line)?;
-            rest = behind;
+        for line in lines {
+            replay.take(line)?;
         }
         Ok(replay)
     }

@@ -1,5 +1,6 @@
 //! A text that breaks.
 
+use executor_core::Line;
 use plan_read::Plan;
 use std::alloc::Allocator;
 
@@ -10,6 +11,8 @@ pub struct Scene<'p, 't, A: Allocator, B: Allocator> {
     pub plan: &'p Plan<B>,
     pub workers: u8,
     pub text: &'t [u8],
+    /// The lines before the break.
+    pub before: &'p [Line],
     /// The number of the line at which the text breaks, counted from 1.
     pub line: u64,
 }

@@ -6,6 +6,7 @@ mod memory;
 mod places;
 mod shown;
 mod unreadable;
+mod usage;
 mod workers;
 
 use crate::reason_of_trace;

@@ -6,10 +6,10 @@ use Rattle.plan_compile.specs.PlanCalls.{calls_of_plan}
 use Rattle.executor_core.specs.Counts.{IsWorkerCount}
 use Rattle.executor_core.specs.declared.types.Line.{Line}
 use Rattle.byte_ends.specs.Ends.{AllGood, LastBad, NoneFailed}
-use Rattle.task_list.specs.Submissions.{submissions_of_plan}
+use Rattle.plan_compile.specs.Submissions.{submissions_of_plan}
 use Rattle.trace_check.specs.Findings.{Breaks, Conforms}
+use Rattle.trace_check.specs.Lines.{AreSpelled}
 use Rattle.trace_draw.specs.Pictures.{bars_within, crowd, marks_within, picture_of}
-use Rattle.trace_draw.specs.Texts.{AreSpelled}
 use Rattle.trace_draw.specs.Whole.{least_moment, greatest_moment}
 use Rattle.trace_draw.specs.declared.window.Window.{Window}
 use Rattle.trace_svg.specs.Shown.{svg_text}

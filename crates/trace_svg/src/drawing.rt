@@ -1,28 +1,25 @@
 //! The drawing of a trace.
 
-ghost use Rattle.std.specs.Prelude.{◌≡◌, ◌≤◌, ◌↔◌, length, string_bytes, IfErr, IfOk, IsErrOf};
+ghost use Rattle.std.specs.Prelude.{ℕ, ◌≤◌, ◌↔◌, List, length, string_bytes, IfErr, IfOk, IsErrOf};
 ghost use Rattle.executor_core.specs.Counts.{IsWorkerCount};
-ghost use Rattle.plan_compile.specs.PlanCalls.{calls_of_plan};
-ghost use Rattle.trace_check.specs.Findings.{Conforms};
 ghost use Rattle.trace_check.specs.Standing.{most_bytes};
-ghost use Rattle.trace_draw.specs.Texts.{AreSpelled};
-ghost use Rattle.trace_svg.specs.Drawing.{CountsDrawing, Draws, IsPictureOf, RefusesPicture};
+ghost use Rattle.trace_svg.specs.Drawing.{CountsDrawing, Draws, IsPictureOf, IsTrace, RefusesPicture};
 
 use crate::picture::picture_text;
 use crate::report::{DrawError, Drawn};
 use crate::view::View;
 use byte_ends::{Sink, write_text};
 use executor_core::Line;
+use plan_compile::names_of_tasks;
 use plan_read::Plan;
-use std::alloc::{AllocError, Allocator};
-use task_list::names_of_tasks;
-use trace_check::{Finding, check};
-use trace_draw::{LinesError, lines_of, picture};
+use std::alloc::Allocator;
+use trace_check::{Finding, check_and_read};
+use trace_draw::picture;
 
 /// Draws a trace of a plan with this many workers, 1 to 64, as the view asks, and writes the picture.
 ///
 /// The text has at most [`MOST_BYTES`](trace_check::MOST_BYTES) bytes. Where it is no trace of the plan, the answer is the line at
-/// which it breaks, as [`check`] finds it, and nothing is written. The errors come in this order: [`DrawError::Workers`] exactly
+/// which it breaks, as [`check`](trace_check::check) finds it, and nothing is written. The errors come in this order: [`DrawError::Workers`] exactly
 /// where the number of workers is not 1 to 64; for a trace of the plan [`DrawError::Window`] where the view ends before it begins, and
 /// [`DrawError::Crowded`] where it would show more marks, or else more bars, than it may. [`DrawError::Memory`] may come in place of
 /// any answer but the first. At each of them, and at that, nothing is written; at [`DrawError::Write`] a front of the picture. A
@@ -42,52 +39,37 @@ pub fn draw<A: Allocator + Copy, B: Allocator, W: Sink>(
         (W.failed writer.new) (W.fruitless writer.new) }
     ensures workers { IsErrOf result DrawError.Workers ↔ ¬ IsWorkerCount workers }
 {
-    if let Finding::Breaks(line) = check(alloc, plan, workers, trace)? {
+    let (finding, lines) = check_and_read(alloc, plan, workers, trace)?;
+    if let Finding::Breaks(line) = finding {
         return Ok(Drawn::Breaks(line));
     }
-    let text = picture_of_trace(alloc, plan, workers, trace, view)?;
+    let text = picture_of_trace(alloc, plan, workers, &lines, view)?;
     if !write_text(writer, text.as_bytes()) {
         return Err(DrawError::Write);
     }
     Ok(Drawn::Drawn)
 }
 
-/// The picture of a trace.
+/// The picture of a trace with these lines.
 fn picture_of_trace<A: Allocator + Copy, B: Allocator>(
     alloc: A,
     plan: &Plan<B>,
     workers: u8,
-    trace: &[u8],
+    lines: &[Line],
     view: View,
 ) -> Result<String<A>, DrawError>
-    requires { Conforms (calls_of_plan plan.now) workers trace.now }
-    ensures picture { IfOk result
-        (λ text. IsPictureOf plan.now workers trace.now view (string_bytes text)) }
-    ensures refuses { IfErr result (λ e. RefusesPicture e plan.now workers trace.now view) }
+    ensures picture { IfOk result (λ text. (trace : List ℕ)
+        → IsTrace plan.now workers trace lines.now
+        → IsPictureOf plan.now workers trace view (string_bytes text)) }
+    ensures refuses { IfErr result (λ e. (trace : List ℕ)
+        → IsTrace plan.now workers trace lines.now
+        → RefusesPicture e plan.now workers trace view) }
     ensures workers { IsErrOf result DrawError.Workers → ⊥ }
 {
-    let lines = lines_of_trace(alloc, plan, workers, trace)?;
-    let Some(window) = view.window(&lines) else {
+    let Some(window) = view.window(lines) else {
         return Err(DrawError::Window);
     };
-    let shown = picture(alloc, &lines, workers, window, view.marks)?;
+    let shown = picture(alloc, lines, workers, window, view.marks)?;
     let names = names_of_tasks(alloc, plan)?;
     Ok(picture_text(alloc, &shown, &names)?)
-}
-
-/// The lines of a trace.
-fn lines_of_trace<A: Allocator, B: Allocator>(
-    alloc: A,
-    plan: &Plan<B>,
-    workers: u8,
-    trace: &[u8],
-) -> Result<Vec<Line, A>, AllocError>
-    requires { Conforms (calls_of_plan plan.now) workers trace.now }
-    ensures { IfOk result (λ lines. AreSpelled trace.now lines.items) }
-{
-    match lines_of(alloc, trace) {
-        Ok(lines) => Ok(lines),
-        Err(LinesError::Memory) => Err(AllocError),
-        Err(LinesError::NotATrace { .. }) => unreachable!(),
-    }
 }

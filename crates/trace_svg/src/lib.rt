@@ -3,13 +3,18 @@
 //! # Usage
 //!
 //! ```rust
-//! let plan = read_plan(alloc, plan_text)?;
-//! let view = View { from: None, to: None, marks: 2_000 };
-//! draw(alloc, &plan, 1, trace, view, &mut writer)?;     // Drawn::Drawn: the picture was written
-//! draw(alloc, &plan, 1, b"0 clock", view, &mut writer)?; // Drawn::Breaks(1): nothing was written
-//!
-//! let names = names_of_tasks(alloc, &plan)?;
-//! picture_text(alloc, &picture, &names)?;                // the text of a picture that was made before
+//! let plan = read_plan(alloc, b"version = 2\n")?; // of no calls
+//! let view = View {
+//!     from: None,
+//!     to: None,
+//!     marks: 2_000,
+//! };
+//! let mut writer = Writing::new(Vec::new(alloc));
+//! let drawn = draw(alloc, &plan, 1, b"5 clock\n", view, &mut writer)?;
+//! assert!(rt; matches!(drawn, Drawn::Drawn));
+//! let drawn = draw(alloc, &plan, 1, b"5 clock", view, &mut writer)?; // nothing is written
+//! assert!(rt; matches!(drawn, Drawn::Breaks(1)));
+//! assert!(rt; writer.into_inner().starts_with(b"<svg "));
 //! ```
 //!
 //! # Behaviour
@@ -66,7 +71,7 @@
 //!
 //! # Memory and cost
 //!
-//! A check takes what [`check`](trace_check::check) takes; then come the lines of the trace, the picture and its text, some 200 bytes
+//! A check takes what [`check`](trace_check::check) takes, and the lines of the trace; then come the picture and its text, some 200 bytes
 //! for each bar or mark. Bars are gone over once for each of the 256 workers that a line can name, and marks once for each row; those
 //! of one lane or row are copied meanwhile.
 //!
@@ -83,7 +88,6 @@ mod piles;
 mod places;
 mod report;
 mod runs;
-mod said;
 mod stacks;
 #[cfg(test)]
 mod tests;

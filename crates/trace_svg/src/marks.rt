@@ -4,12 +4,12 @@ ghost use Rattle.std.specs.Prelude.{◌≡◌, ◌++◌, OnOk, string_bytes};
 ghost use Rattle.trace_svg.specs.Runs.{line_mark, telling_mark};
 
 use crate::places::{across, glyph_of, height_of};
-use crate::said::Said;
 use executor_core::Line;
 use std::alloc::{AllocError, Allocator};
 use std::fmt::Write;
 use svg_elements::Mark;
 use trace_draw::Window;
+use trace_text::LineText;
 
 /// Appends the mark of a line, which tells the line.
 pub fn put_mark<A: Allocator + Copy>(
@@ -20,8 +20,8 @@ pub fn put_mark<A: Allocator + Copy>(
 ) -> Result<(), AllocError>
     ensures { OnOk result (string_bytes text.new ≡ string_bytes text.old ++ line_mark window line) }
 {
-    let said = Said(line);
-    let tip = format!(in alloc; "{said}")?;
+    let shown = LineText(line);
+    let tip = format!(in alloc; "{shown}")?;
     put_telling_mark(text, window, line, &tip)
 }
 

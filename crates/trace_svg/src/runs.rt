@@ -4,13 +4,13 @@ ghost use Rattle.std.specs.Prelude.{◌≡◌, ◌++◌, IfOk, OnOk, map, string
 ghost use Rattle.trace_svg.specs.Runs.{bar_label, bar_shape, bar_text, bar_tip, fill_by, fill_of, finish_line, letters_in, name_of, named_bar_text, run_label, start_line};
 
 use crate::places::{across, bar_width, lane_top};
-use crate::said::Said;
 use executor_core::{Answer, Line, Message, Outcome};
 use plan_read::Name;
 use std::alloc::{AllocError, Allocator};
 use std::fmt::Write;
 use svg_elements::{Face, Fill, Label, Rectangle};
 use trace_draw::{Bar, Finish, Window};
+use trace_text::LineText;
 
 /// Appends the bar of a run, where these are the names of the tasks.
 pub fn put_bar<A: Allocator + Copy>(
@@ -120,10 +120,10 @@ fn run_label<A: Allocator>(alloc: A, name: &str, run: u64) -> Result<String<A>, 
 pub fn bar_tip<A: Allocator>(alloc: A, name: &str, bar: &Bar) -> Result<String<A>, AllocError>
     ensures { IfOk result (λ text. string_bytes text ≡ bar_tip name.now bar.now) }
 {
-    let start = Said(start_line(bar));
+    let start = LineText(start_line(bar));
     match bar.finish {
         Some(finish) => {
-            let finish = Said(finish_line(bar, finish));
+            let finish = LineText(finish_line(bar, finish));
             format!(in alloc; "{name}\n{start}{finish}")
         }
         None => format!(in alloc; "{name}\n{start}"),

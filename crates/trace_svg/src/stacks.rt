@@ -9,12 +9,12 @@ ghost use Rattle.trace_svg.specs.Stacks.{mark_height, marks_in, stack_across, st
 use crate::keys::ROWS;
 use crate::marks::{put_mark, put_telling_mark};
 use crate::places::{across, glyph_of, height_of};
-use crate::said::Said;
 use executor_core::Line;
 use std::alloc::{AllocError, Allocator};
 use std::fmt::Write;
 use svg_elements::{Face, Glyph, Label};
 use trace_draw::Window;
+use trace_text::LineText;
 
 /// Appends the marks of lines, row by row.
 pub fn put_marks<A: Allocator + Copy>(
@@ -186,8 +186,8 @@ fn stack_tip<A: Allocator + Copy>(alloc: A, stack: &[Line]) -> Result<String<A>,
 {
     let mut tip = String::new(alloc);
     for line in stack {
-        let said = Said(*line);
-        write!(tip, "{said}")?;
+        let line = LineText(*line);
+        write!(tip, "{line}")?;
     }
     Ok(tip)
 }

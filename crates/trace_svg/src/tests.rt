@@ -2,19 +2,22 @@
 
 mod piles;
 mod stacks;
+mod usage;
 
 use crate::{DrawError, Drawn, View, draw, picture_text};
 use byte_ends::Writing;
+use executor_core::Line;
 use linked_list_allocator::LocalHeap;
+use plan_compile::names_of_tasks;
 use plan_read::{Plan, read_plan};
 use scripted_ends::{Script, Taking, Trouble};
 use std::alloc::Global;
 use std::io::ErrorKind;
 use std::process::Abort;
 use std::test::Fail;
-use task_list::names_of_tasks;
 use trace_check::MOST_BYTES;
-use trace_draw::{lines_of, picture, whole_window};
+use trace_draw::{picture, whole_window};
+use trace_text::split_line;
 
 /// A plan of two tasks.
 const PLAN: &str =
@@ -69,9 +72,26 @@ fn drawn(alloc: Global, workers: u8, trace: &str, view: View) -> Result<(String,
     Ok((answer, writer.into_inner()))
 }
 
+/// The lines of a text, which is one of lines.
+fn lines_of(alloc: Global, text: &str) -> Result<Vec<Line>, Fail> {
+    let mut lines = Vec::new(alloc);
+    let mut rest = text.as_bytes();
+    for _ in 0..text.len() {
+        let Some((line, behind)) = split_line(rest) else {
+            break;
+        };
+        lines.push(line)?;
+        rest = behind;
+    }
+    if !rest.is_empty() {
+        return Err(Fail::from("no line"));
+    }
+    Ok(lines)
+}
+
 /// The picture of lines of a trace with two workers, where no task has a name.
 fn picture_of(alloc: Global, trace: &str) -> Result<String, Fail> {
-    let lines = lines_of(alloc, trace.as_bytes())?;
+    let lines = lines_of(alloc, trace)?;
     let shown = picture(alloc, &lines, 2, whole_window(&lines), 100)?;
     Ok(picture_text(alloc, &shown, &[])?)
 }
@@ -87,7 +107,7 @@ fn a_trace_is_drawn(rt: HostRuntime) -> Result<(), Fail> {
         rest = behind;
     }
     assert!(rt; rest.is_empty());
-    let lines = lines_of(alloc, TRACE.as_bytes())?;
+    let lines = lines_of(alloc, TRACE)?;
     let shown = picture(alloc, &lines, 2, whole_window(&lines), 6)?;
     let plan = plan(alloc)?;
     let names = names_of_tasks(alloc, &plan)?;

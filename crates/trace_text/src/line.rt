@@ -13,7 +13,7 @@ use executor_core::Line;
 pub fn read_line(line: &[u8]) -> Option<Line>
     ensures { SpellsLine line.now result }
 {
-    let Some(found) = split_line(line) else {
+    let Some(found) = split_one::<true>(line) else {
         return None;
     };
     let (read, rest) = found;
@@ -24,10 +24,19 @@ pub fn read_line(line: &[u8]) -> Option<Line>
 }
 
 /// The line of a trace whose text stands at the front of some bytes, and what follows its newline. `None` exactly when no
-/// line's text stands there; the limits of its numbers are those of [`read_line`]. It is put where it is called, so that a loop over
-/// many lines takes fewer steps for each.
+/// line's text stands there; the limits of its numbers are those of [`read_line`].
 #[inline(always)]
 pub fn split_line(bytes: &[u8]) -> Option<(Line, &[u8])>
+    ensures { MatchOption result (IsUnread line_text FitsLine bytes.now)
+        (λ r. IsRead line_text FitsLine bytes.now r.0 r.1.now) }
+{
+    split_one::<false>(bytes)
+}
+
+/// As [`split_line`]: compiled once for it, and once for [`read_line`]. So a program that reads many lines in one loop has it in that
+/// loop, and not by a call.
+#[inline]
+fn split_one<const ALONE: bool>(bytes: &[u8]) -> Option<(Line, &[u8])>
     ensures { MatchOption result (IsUnread line_text FitsLine bytes.now)
         (λ r. IsRead line_text FitsLine bytes.now r.0 r.1.now) }
 {

@@ -12,11 +12,11 @@ use Rattle.executor_core.specs.declared.types.Event.{Event}
 use Rattle.executor_core.specs.declared.types.Event.TheVariants as v
 use Rattle.executor_core.specs.declared.types.Happening.{Happening}
 use Rattle.executor_core.specs.declared.types.Line.{Line}
-use Rattle.executor_core.specs.Histories.{HistoryEntry, IsHistoryOf, happenings, is_call, now_of}
+use Rattle.executor_core.specs.Histories.{HistoryEntry, IsHistoryOf, happenings, is_call, now_of, is_end as stands_in}
 use Rattle.executor_core.specs.Flows.{happening_of, answer_line, lines_of}
 use Rattle.executor_core.specs.CoreView.{CoreView, workers_of, Counts}
 use Rattle.worker_pool.specs.own.Results.{TookVerdict}
-use Rattle.worker_pool.specs.Books.{BookView, IsBook, KnowsVerdict, EndedSo, ending_in, past_of, stands_in, was_outside}
+use Rattle.worker_pool.specs.Books.{BookView, IsBook, KnowsVerdict, EndedSo, ending_in, past_of, was_outside}
 use Rattle.worker_pool.specs.Applies.{Applies}
 use Rattle.worker_pool.specs.own.Steps.{IsKept, Agrees, past_in, part_in, Completes, SamePlan, OnlyOwnGrows}
 use Rattle.worker_pool.proofs.Entries.{takes_noted, lines_more, last_line}

@@ -19,7 +19,7 @@ use Rattle.executor_core.specs.declared.types.Answer.TheVariants as a
 use Rattle.executor_core.specs.declared.types.Outcome.{Outcome}
 use Rattle.executor_core.specs.declared.types.Outcome.TheVariants as o
 use Rattle.executor_core.specs.declared.types.Need.TheVariants as n
-use Rattle.executor_core.specs.Histories.{HistoryEntry, IsHistoryOf, is_finish_with, is_done, is_failed, was_done, was_failed}
+use Rattle.executor_core.specs.Histories.{HistoryEntry, IsHistoryOf, is_finish_with, is_done, is_failed, was_done, was_failed, is_end as stands_in}
 use Rattle.executor_core.specs.Answers.{Reply}
 use Rattle.executor_core.specs.State.{State, vacant, reply_of}
 use Rattle.executor_core.specs.Tasks.{word_of_task}
@@ -28,7 +28,7 @@ use Rattle.executor_core.specs.Needs.{need_of_answer}
 use Rattle.executor_core.proofs.Agree.{after_agrees, answers_alike}
 use Rattle.executor_laws.specs.TaskWords.{word_after}
 use Rattle.executor_laws.proofs.TaskWords.{words_tell_the_history}
-use Rattle.worker_pool.specs.Books.{BookView, IsBook, KnowsVerdict, EndedSo, FitsWord, ending_in, ending_of_outcome, past_of, stands_in, is_outside, was_outside}
+use Rattle.worker_pool.specs.Books.{BookView, IsBook, KnowsVerdict, EndedSo, FitsWord, ending_in, ending_of_outcome, past_of, is_outside, was_outside}
 use Rattle.worker_pool.specs.own.Steps.{IsKept}
 use Rattle.worker_pool.proofs.Bools.{or_true, any_append}
 use Rattle.worker_pool.proofs.NoteLists.{none_at}

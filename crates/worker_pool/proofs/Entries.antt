@@ -11,11 +11,11 @@ use Rattle.queue_code.specs.Calls.{Planned}
 use Rattle.executor_core.specs.declared.types.Happening.{Happening}
 use Rattle.executor_core.specs.declared.types.Happening.TheVariants as h
 use Rattle.executor_core.specs.declared.types.Line.{Line}
-use Rattle.executor_core.specs.Histories.{HistoryEntry, IsHistoryOf, happenings, is_call, cancels, was_cancelled, answer, now_of}
+use Rattle.executor_core.specs.Histories.{HistoryEntry, IsHistoryOf, happenings, is_call, cancels, was_cancelled, answer, now_of, is_end as stands_in}
 use Rattle.executor_core.specs.Flows.{answer_line, lines_at, lines_of, reply_in}
 use Rattle.executor_laws.proofs.TaskWords.{words_tell_the_history}
 use Rattle.executor_laws.proofs.Policies.{tasks_are_cancelled_once}
-use Rattle.worker_pool.specs.Books.{stands_in, is_outside, was_outside}
+use Rattle.worker_pool.specs.Books.{is_outside, was_outside}
 use Rattle.worker_pool.specs.Applies.{SaysYes, IsNoted, calls_in}
 use Rattle.worker_pool.specs.own.Steps.{Agrees, Noting, IsPassed, Completes}
 use Rattle.worker_pool.proofs.Bools.{same_eqb, or_none, or_true, and_true, neither, false_unless, any_append}

@@ -10,11 +10,10 @@ use Rattle.queue_code.specs.Calls.{Planned}
 use Rattle.executor_core.specs.declared.types.Event.{Event}
 use Rattle.executor_core.specs.declared.types.Happening.{Happening}
 use Rattle.executor_core.specs.declared.types.Happening.TheVariants as h
-use Rattle.executor_core.specs.Histories.{HistoryEntry, happenings, is_call, cancels, was_cancelled, answer}
+use Rattle.executor_core.specs.Histories.{HistoryEntry, happenings, is_call, cancels, was_cancelled, answer, is_end as stands_in}
 use Rattle.executor_core.specs.Answers.{moment_after}
 use Rattle.executor_core.specs.Flows.{happening_of, calls_before, CallComes, EventComes}
 use Rattle.executor_core.specs.CoreView.{CoreView, workers_of}
-use Rattle.worker_pool.specs.Books.{stands_in}
 use Rattle.worker_pool.specs.Applies.{SaysYes, calls_in, is_in_way, WereInWay}
 use Rattle.worker_pool.specs.own.Steps.{SamePlan, OnlyOwnGrows, Noting, OnlyNoted, NotedFor, IsPassed, Passes, Completes, MovesOn, part_in, past_in}
 use Rattle.worker_pool.proofs.Bools.{or_none, or_assoc, any_append}

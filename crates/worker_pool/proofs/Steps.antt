@@ -28,7 +28,7 @@ use Rattle.executor_core.specs.declared.types.Need.TheVariants as n
 use Rattle.executor_core.specs.View.{View}
 use Rattle.executor_core.specs.Answers.{Reply, bare, called, swept, setting_sweeps}
 use Rattle.sched_time.specs.Policies.{set_policy}
-use Rattle.executor_core.specs.Histories.{HistoryEntry, IsHistoryOf, happenings, answer, entry_of, had_effect, is_end, cancels, was_cancelled}
+use Rattle.executor_core.specs.Histories.{HistoryEntry, IsHistoryOf, happenings, answer, entry_of, had_effect, is_end, cancels, was_cancelled, is_end as stands_in}
 use Rattle.executor_core.specs.State.{State, view_of_state, after, reply_of}
 use Rattle.executor_core.specs.Needs.{need_of, need_of_answer}
 use Rattle.executor_core.proofs.Agree.{after_agrees, answers_alike}
@@ -37,7 +37,7 @@ use Rattle.executor_laws.specs.NeedWrites.{writes_of, IsWritten, MakesWrites}
 use Rattle.executor_laws.specs.Cancels.{effect_on_word, outside_answer}
 use Rattle.executor_laws.proofs.WordMoves.{needs_move_words}
 use Rattle.executor_laws.proofs.CancelWords.{cancels_go_by_words}
-use Rattle.worker_pool.specs.Books.{stands_in, is_outside, was_outside, FitsWord}
+use Rattle.worker_pool.specs.Books.{is_outside, was_outside, FitsWord}
 use Rattle.worker_pool.specs.own.Moves.{moves_made, IsFresh, CanMove, WasMet}
 use Rattle.worker_pool.specs.own.Steps.{Agrees}
 use Rattle.worker_pool.proofs.Bools.{or_none, and_none, and_true, or_swap, or_joins}

@@ -16,7 +16,7 @@ use Rattle.executor_core.specs.declared.types.Happening.{Happening}
 use Rattle.executor_core.specs.declared.types.Happening.TheVariants as h
 use Rattle.executor_core.specs.declared.types.Line.{Line}
 use Rattle.executor_core.specs.declared.types.Need.TheVariants as n
-use Rattle.executor_core.specs.Histories.{HistoryEntry, IsHistoryOf, answer, cancels, is_end}
+use Rattle.executor_core.specs.Histories.{HistoryEntry, IsHistoryOf, answer, cancels, is_end, is_end as stands_in}
 use Rattle.executor_core.specs.State.{view_of_state, reply_of}
 use Rattle.executor_core.specs.Tasks.{word_phase}
 use Rattle.executor_core.specs.Needs.{need_of}
@@ -26,7 +26,7 @@ use Rattle.executor_core.proofs.Sound.{waits_in}
 use Rattle.executor_laws.specs.TaskWords.{word_after}
 use Rattle.executor_laws.specs.NeedWrites.{writes_of, IsWritten, MakesWrites}
 use Rattle.executor_laws.proofs.Replies.{ends_say}
-use Rattle.worker_pool.specs.Books.{stands_in, FitsWord}
+use Rattle.worker_pool.specs.Books.{FitsWord}
 use Rattle.worker_pool.specs.own.Moves.{with_mark, IsFresh, WasMet}
 use Rattle.worker_pool.specs.own.Steps.{Agrees, IsKept, past_in, Comes, need_in, Notes, IsAheadBy, ends_of, SweepsUpTo}
 use Rattle.worker_pool.proofs.Bools.{or_assoc, and_none, and_true, false_unless}

@@ -13,7 +13,7 @@ use Rattle.executor_core.specs.declared.types.Answer.TheVariants as a
 use Rattle.executor_core.specs.declared.types.Event.{Event}
 use Rattle.executor_core.specs.declared.types.Happening.{Happening}
 use Rattle.executor_core.specs.declared.types.Happening.TheVariants as h
-use Rattle.executor_core.specs.Histories.{HistoryEntry, happenings, is_call, is_end, was_cancelled}
+use Rattle.executor_core.specs.Histories.{HistoryEntry, happenings, is_call, is_end, was_cancelled, is_end as stands_in}
 use Rattle.executor_core.specs.Flows.{part_of}
 use Rattle.executor_core.specs.State.{vacant, after, reply_of}
 use Rattle.executor_core.specs.Tasks.{word_of_task}
@@ -22,7 +22,7 @@ use Rattle.executor_core.specs.CoreView.{workers_of}
 use Rattle.executor_laws.specs.Cancels.{is_needed}
 use Rattle.worker_pool.specs.declared.applied.Applied.{Applied}
 use Rattle.worker_pool.specs.declared.applied.Work.{Work}
-use Rattle.worker_pool.specs.Books.{BookView, ending_in, past_of, stands_in, was_outside}
+use Rattle.worker_pool.specs.Books.{BookView, ending_in, past_of, was_outside}
 
 -- ---- cancels that are noted
 

@@ -1,5 +1,5 @@
 -- What a book keeps: its core, its seat, what happened and the lines agree with each other.
--- All of it is this project's rule.
+-- All of it is this project's rule. `stands_in k tasks`, task k is one of these, is the test `is_end`.
 use Rattle.std.specs.Prelude.{◌≡◌, ℕ, ◌==◌, ◌&&◌, ◌||◌, if◌then◌else◌, Bool, true, false, List, [], ◌∷◌, length, reverse, Option, Some, None, slice_index, slice_index_or, ◌⊎◌}
 use Rattle.std.specs.List.{list_any}
 use Rattle.atomic_table.specs.Seated.{TableId}
@@ -17,7 +17,7 @@ use Rattle.executor_core.specs.declared.types.Answer.{Answer}
 use Rattle.executor_core.specs.declared.types.Answer.TheVariants as a
 use Rattle.executor_core.specs.declared.types.Happening.{Happening}
 use Rattle.executor_core.specs.declared.types.Line.{Line}
-use Rattle.executor_core.specs.Histories.{HistoryEntry, IsHistoryOf, had_effect, was_cancelled}
+use Rattle.executor_core.specs.Histories.{HistoryEntry, IsHistoryOf, had_effect, is_end as stands_in, was_cancelled}
 use Rattle.executor_core.specs.Flows.{history_from, lines_of}
 use Rattle.executor_core.specs.State.{vacant}
 use Rattle.executor_core.specs.Tasks.{word_of_task}
@@ -40,10 +40,6 @@ history_for calls workers happened = history_from calls workers [] (reverse happ
 -- the history of a book
 abbrev pub past_of : BookView → List HistoryEntry
 past_of b = history_for b.core.calls (workers_of b.core) b.happened
-
--- task k is one of these
-abbrev pub stands_in : ℕ → List ℕ → Bool
-stands_in k tasks = list_any (λ j. j == k) tasks
 
 -- an answer says that a cancel of task k from outside had an effect
 abbrev pub is_outside : ℕ → Answer → Bool

@@ -122,6 +122,16 @@ impl<N: Named, A: HeapAllocator> Book<N, A> {
     ///
     /// [`PoolError::Full`], exactly where as many events were taken as the limit allows; then [`PoolError::Memory`]. At both
     /// the book is as it was, and the event may be given again.
+    ///
+    /// ```rust
+    /// let clock = book.apply(shared, Event::Clock(0))?;
+    /// assert_eq!(rt; clock.count, 2); // the lines of the submission of task 0, and of the clock
+    /// let start = book.apply(shared, Event::Start(0))?;
+    /// assert_eq!(rt; start.work.map(|work| work.task), Some(0));
+    /// // Two events are as many as the book takes.
+    /// let more = book.apply(shared, Event::Clock(5));
+    /// assert_eq!(rt; more, Err(PoolError::Full));
+    /// ```
     #[inline(always)]
     pub fn apply(&mut self, shared: &Shared<A>, event: Event) -> Result<Applied, PoolError>
         requires shared { (shared.now.table ≡ N.table) × (shared.now.cells ≡ N.cells) }

@@ -27,17 +27,15 @@
 //!     let mut book = Book::<N, Global>::new(rt.alloc(), shared, seat, code, 1, 100)?;
 //!     let mut handle = book.admit(shared)?;
 //!     // `submit 0 schedule due 0` and `clock`.
-//!     assert_eq!(rt; book.apply(shared, Event::Clock(0))?.count, 2);
-//!     assert_eq!(rt; handle.cancel(0), CancelAnswer::Yes);
+//!     assert!(rt; book.apply(shared, Event::Clock(0))?.count == 2);
+//!     assert!(rt; handle.cancel(0) == CancelAnswer::Yes);
 //!     // `outside 0 yes` and `start 0 idle`.
-//!     assert_eq!(rt; book.apply(shared, Event::Start(0))?.count, 2);
-//!     assert_eq!(rt; handle.state(0), TaskState::Cancelled);
-//!     assert_eq!(rt; book.lines().len(), 4);
+//!     assert!(rt; book.apply(shared, Event::Start(0))?.count == 2);
+//!     assert!(rt; handle.state(0) == TaskState::Cancelled);
+//!     assert!(rt; book.lines().len() == 4);
 //!     book.retire(shared, handle).map_err(|(error, _)| error)
 //! }
 //! ```
-//!
-//! A test runs these lines as they stand (`src/tests/usage.rt`).
 //!
 //! `N` is a [`Named`], by which contracts tell of which words, cells, calls and workers a book is. It has no functions: a
 //! caller picks [`Brand`], as `run_code` does, and says in the proof of that function which they are
@@ -62,14 +60,6 @@
 //!
 //! A [`Pool`] is a book that threads share. [`Pool::run`] lets the clock show some moments, and at each of them runs what is
 //! due, a [`Job`] for each start, in as many threads as the book has workers.
-//!
-//! ```rust
-//! let pool = Pool::<N, _>::new(alloc, &shared, seat, code, 2, 100)?;
-//! let handle = pool.handle(rt)?; // for another thread
-//! pool.run(rt, &job, &[0, 5])?; // what is due at moment 0, and then what is at 5
-//! let mut book = pool.end();
-//! book.retire(&shared, handle)?;
-//! ```
 //!
 //! Jobs are run without the lock. The page of `src/pool.rt` says who waits for whom. What is proved of a pool is that what lies
 //! under its lock is a book, each time the lock is taken and when it ends; that its jobs are run, and that each call returns, is

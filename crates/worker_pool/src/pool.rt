@@ -175,6 +175,13 @@ impl<'s, N: Named, A: HeapAllocator> Pool<'s, N, A> {
     /// [`PoolError::Running`] where a run is under way. [`PoolError::Full`] and [`PoolError::Memory`], the first that a clock,
     /// a start or a finish of this run was refused with; a thread that can't be made counts as `Memory`. Then no further task
     /// is started, and each later run of this pool is answered the same, and does nothing.
+    ///
+    /// ```rust
+    /// let pool = Pool::<N, Global>::new(alloc, shared, seat, code, 2, 100)?; // two workers
+    /// let mut handle = pool.handle(rt)?; // for another thread
+    /// // `Double` is a `Job`: it answers twice the number of its task.
+    /// pool.run(rt, &Double, &[0, 5])?; // what is due at moment 0, and then what is at 5
+    /// ```
     pub fn run<R: Threads + Wait + Sync, J: Job + Sync>(
         &self,
         rt: &R,

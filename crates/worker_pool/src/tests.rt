@@ -2,9 +2,10 @@
 mod growths;
 mod handles;
 mod limits;
+mod noted;
 mod pool;
 mod results;
-mod rows;
+mod row_by_row;
 mod table;
 mod usage;
 
@@ -16,14 +17,16 @@ ghost use Rattle.task_word.specs.Views.{new_core};
 use crate::{Applied, Book, Handle, Named, PoolError, Shared, Work};
 use executor_core::{Event, Happening, Line};
 use heap_allocator::HeapAllocator;
-use queue_code::{Code, Instr};
+use plan_compile::compile;
+use plan_read::read_plan;
+use queue_code::Code;
 use result_cell::Verdict;
 use std::alloc::{AllocError, AllocGlobal, Allocator, Global};
 use std::marker::Brand;
 use std::process::Abort;
 use std::test::Fail;
 use task_word::{CancelAnswer, CoreSeat, TaskState};
-use trace_text::write_line;
+use trace_text::{read_event, write_line};
 
 /// What is done; handles are numbered as they were admitted.
 #[derive(Clone, Copy)]
@@ -41,7 +44,7 @@ enum Step {
 }
 
 /// What is told.
-#[derive(Clone, Copy, Debug, PartialEq, Eq)]
+#[derive(Clone, Copy, Debug)]
 enum Told {
     /// How many lines an event added, and what it started.
     Lines(usize, Option<Work>),
@@ -55,9 +58,55 @@ enum Told {
     NoHandle,
 }
 
-/// An event that added so many lines, and started nothing.
-fn lines(count: usize) -> Told {
-    Told::Lines(count, None)
+/// A plan, what is done with a book for it that has one worker, and the text of the lines then. A line of the script has a step, ` | `
+/// and what is told.
+#[derive(Clone, Copy)]
+pub struct Row<'a> {
+    pub name: &'a str,
+    pub plan: &'a str,
+    pub limit: u32,
+    pub script: &'a str,
+    pub trace: &'a str,
+}
+
+/// The number that a word spells.
+fn number_of(word: &str) -> Result<u32, Fail> {
+    Ok(word.parse::<u32>()?)
+}
+
+/// The step of a line of a script: an event, or one of these.
+fn read_step(alloc: Global, line: &str) -> Result<Step, Fail> {
+    let words: Vec<&str> = line.split(' ').collect(alloc)?;
+    match words.as_slice() {
+        ["admit"] => Ok(Step::Admit),
+        ["note"] => Ok(Step::NoteCancels),
+        ["retire", handle] => Ok(Step::Retire(number_of(handle)? as usize)),
+        ["handle", handle, verb, task] => {
+            let (handle, task) = (number_of(handle)? as usize, number_of(task)?);
+            match *verb {
+                "cancel" => Ok(Step::Cancel(handle, task)),
+                "state" => Ok(Step::State(handle, task)),
+                "result" => Ok(Step::Result(handle, task)),
+                "agrees" => Ok(Step::Agrees(handle, task)),
+                _ => Err(Fail::from("no verb")),
+            }
+        }
+        _ => {
+            let text = format!(in alloc; "{line}\n")?;
+            let event = read_event(text.as_bytes()).ok_or("no step")?;
+            Ok(Step::Apply(event))
+        }
+    }
+}
+
+/// The steps of a script, and what is told of each.
+fn read_script<'a>(alloc: Global, script: &'a str) -> Result<Vec<(Step, &'a str)>, Fail> {
+    let mut steps = Vec::new(alloc);
+    for line in script.lines() {
+        let (step, told) = line.split_once(" | ").ok_or("nothing told")?;
+        steps.push((read_step(alloc, step)?, told))?;
+    }
+    Ok(steps)
 }
 
 /// What was told, what happened, and the lines.
@@ -243,42 +292,60 @@ fn play_code(
     book_of::<Brand>(alloc, &shared, seat, code, workers, limit, steps)
 }
 
-/// The code of these instructions and a halt.
-fn code_with_halt<A: Allocator + Copy>(alloc: A, instrs: &[Instr]) -> Result<Code<A>, Fail> {
-    let mut list = Vec::with_capacity(alloc, instrs.len() + 1)?;
-    list.extend_from_slice(instrs)?;
-    list.push(Instr::Halt)?;
-    Ok(Code::check(alloc, list)?)
-}
-
-/// Does the steps with a new book for these instructions and a halt.
-fn play(
-    alloc: Global,
-    instrs: &[Instr],
-    workers: u8,
-    limit: u32,
-    steps: &[Step],
-) -> Result<Played, Fail> {
-    play_code(alloc, code_with_halt(alloc, instrs)?, workers, limit, steps)
-}
-
 /// Checks the text of the lines.
-fn check_lines(rt: &(impl Abort + AllocGlobal), lines: &[Line], text: &str) -> Result<(), Fail> {
+fn check_lines(
+    rt: &(impl Abort + AllocGlobal),
+    name: &str,
+    lines: &[Line],
+    text: &str,
+) -> Result<(), Fail> {
     let mut written = Vec::new(rt.alloc());
     for line in lines {
         write_line(&mut written, line)?;
     }
-    assert!(rt; written.as_slice() == text.as_bytes(), "{text}");
+    assert!(rt; written.as_slice() == text.as_bytes(), "{name}: {text}");
     Ok(())
 }
 
-/// Checks what a script is told, and the text of the lines.
-fn check(
-    rt: &(impl Abort + AllocGlobal),
-    played: &Played,
-    told: &[Told],
-    text: &str,
-) -> Result<(), Fail> {
-    assert_eq!(rt; played.told.as_slice(), told);
-    check_lines(rt, &played.lines, text)
+/// Checks what is told of each step of a row, and the text of the lines.
+fn plays(rt: &(impl Abort + AllocGlobal), row: &Row<'_>) -> Result<(), Fail> {
+    let alloc = rt.alloc();
+    let plan = read_plan(alloc, row.plan.as_bytes())?;
+    let script = read_script(alloc, row.script)?;
+    let mut steps = Vec::new(alloc);
+    for (step, _) in &script {
+        steps.push(*step)?;
+    }
+    let played = play_code(alloc, compile(alloc, &plan)?, 1, row.limit, &steps)?;
+    assert!(rt; played.told.len() == script.len(), "{}", row.name);
+    for (told, (_, wanted)) in played.told.iter().zip(&script) {
+        let told = format!(in alloc; "{told:?}")?;
+        assert!(rt; told.as_str() == *wanted, "{}: {wanted}: {told}", row.name);
+    }
+    check_lines(rt, row.name, &played.lines, row.trace)
+}
+
+/// All rows.
+const ROWS: [Row<'static>; 13] = [
+    handles::A_SWEEP_MEETS_THE_FIRST_TASK_CANCELLED,
+    handles::A_SWEEP_MEETS_THE_MIDDLE_TASK_CANCELLED,
+    handles::A_SWEEP_MEETS_THE_LAST_TASKS_CANCELLED,
+    handles::A_SHUTDOWN_AT_ONCE_MEETS_A_CANCEL,
+    handles::HANDLES_COME_BACK_IN_ORDER,
+    handles::HANDLES_COME_BACK_IN_REVERSE,
+    handles::WHAT_NO_MOVE_MEETS_IS_NOT_NOTED,
+    handles::A_HANDLE_OUTLIVES_THE_END_OF_A_TASK,
+    limits::NOTED_CANCELS_ARE_NO_EVENTS,
+    limits::AN_EVENT_MAY_CANCEL_TOO,
+    limits::A_PLAN_CANCEL_MEETS_A_CANCEL,
+    results::VERDICTS_ARE_READ,
+    results::A_DROPPED_RUN_HAS_NO_VERDICT,
+];
+
+#[test]
+fn each_row_is_played(rt: HostRuntime) -> Result<(), Fail> {
+    for row in &ROWS {
+        plays(&rt, row)?;
+    }
+    Ok(())
 }

@@ -1,4 +1,4 @@
-//! The lines under "Usage" of the crate's page, as they stand there.
+//! The example of the page, as it stands there: `tools/docs` compares them.
 
 use crate::trace_of_lines;
 use call_text::CallLine;
@@ -15,11 +15,19 @@ fn line(moment: u64, answer: Answer) -> Line {
 #[test]
 fn the_page_is_run(rt: HostRuntime) -> Result<(), Fail> {
     let alloc = rt.alloc();
+    // example: live_plain
     let none = LiveLine::Event(Event::Cancel(0));
     let clock = LiveLine::Event(Event::Clock(3));
     let submit = LiveLine::Call(CallLine::Schedule(5));
     let cancel = LiveLine::Call(CallLine::Cancel(0));
+
+    // No task has the number 0 yet, the clock is at 3, task 0 is submitted at 4, and is cancelled.
     let told = trace_of_lines(alloc, 1, &[none, clock, submit, cancel])?;
+    assert_eq!(rt; told.as_ref().map(|lines| lines.len()), Some(4));
+
+    // No number was given out.
+    assert!(rt; trace_of_lines(alloc, 1, &[clock, cancel])?.is_none());
+    // end of example
     let wanted = [
         line(0, Answer::Error(EventError::NoTask)),
         line(3, Answer::Clock),
@@ -40,6 +48,5 @@ fn the_page_is_run(rt: HostRuntime) -> Result<(), Fail> {
         ),
     ];
     assert_eq!(rt; told.as_deref(), Some(wanted.as_slice()));
-    assert!(rt; trace_of_lines(alloc, 1, &[clock, cancel])?.is_none());
     Ok(())
 }

@@ -1,10 +1,7 @@
 //! What the command line takes.
 
-use crate::arguments::{
-    Asked, AskedAlone, CheckArguments, DrawArguments, LintArguments, LiveArguments, PlanArguments,
-    RunArguments,
-};
-use std::alloc::Global;
+use crate::arguments::{Asked, AskedAlone, CheckArguments, LintArguments, LiveArguments};
+use std::alloc::{AllocError, Global};
 use std::process::Abort;
 use std::test::Fail;
 use trace_svg::View;
@@ -58,99 +55,64 @@ fn of_one_thread(alloc: Global, asked: AskedAlone<'_>) -> Result<String, Fail> {
     Ok(words)
 }
 
-/// What a command line asks for, with a space between its arguments.
-fn told(alloc: Global, line: &str) -> Result<String, Fail> {
+/// The arguments of a command line, which has a space between them.
+pub fn words_of(alloc: Global, line: &str) -> Result<Vec<String>, AllocError> {
     let mut arguments = Vec::new(alloc);
     for argument in line.split(' ') {
         arguments.push(String::from_str(alloc, argument)?)?;
     }
-    in_words(alloc, &arguments)
+    Ok(arguments)
 }
 
 /// Checks what each command line of a table asks for. It stands behind ` | `.
 fn tells_each(rt: &(impl AllocGlobal + Abort), table: &str) -> Result<(), Fail> {
     for row in table.lines() {
         let (words, line) = row.split_once(" | ").ok_or("no command line")?;
-        let answer = told(rt.alloc(), line)?;
+        let answer = in_words(rt.alloc(), &words_of(rt.alloc(), line)?)?;
         assert!(rt; answer.as_str() == words, "{row}: {answer}");
     }
     Ok(())
 }
 
 /// Runs: the name of the plan's file, how many workers there are, and how many events are taken.
-const RUNS: &str = "run p 64 1000000 | sched run p --workers 64
+const TAKES_A_NAME_AND_TWO_NUMBERS: &str = "run p 64 1000000 | sched run p --workers 64
 run p 1 1000000 | sched run p --workers +1
 run q 1 4294967295 | x run --limit 4294967295 --workers=1 q
 run -r 10 1 | sched run --limit=1 --workers=010 -- -r";
 
-#[test]
-fn takes_a_name_and_two_numbers(rt: HostRuntime) -> Result<(), Fail> {
-    tells_each(&rt, RUNS)
-}
-
 /// Runs by a pool.
-const POOLS: &str = "pool p 64 1000000 | sched pool p --workers 64
+const TAKES_A_NAME_AND_TWO_NUMBERS_FOR_A_POOL: &str = "pool p 64 1000000 | sched pool p --workers 64
 pool q 1 4294967295 | x pool --limit 4294967295 --workers=1 q";
 
-#[test]
-fn takes_a_name_and_two_numbers_for_a_pool(rt: HostRuntime) -> Result<(), Fail> {
-    tells_each(&rt, POOLS)
-}
-
-#[test]
-fn takes_a_name_for_the_code(rt: HostRuntime) -> Result<(), Fail> {
-    tells_each(&rt, "code p | sched code p")
-}
-
-#[test]
-fn takes_two_names_and_a_number_for_a_check(rt: HostRuntime) -> Result<(), Fail> {
-    tells_each(&rt, "check p t 64 | sched check --workers 64 p t")
-}
-
-#[test]
-fn takes_a_name_for_a_migration(rt: HostRuntime) -> Result<(), Fail> {
-    tells_each(
-        &rt,
-        "tasks p | sched tasks p\nmigrate p | sched migrate p\nmigrate -p | sched migrate -- -p",
-    )
-}
+/// What takes the names of files alone, and a check.
+const TAKES_NAMES: &str = "code p | sched code p
+check p t 64 | sched check --workers 64 p t
+tasks p | sched tasks p
+migrate p | sched migrate p
+migrate -p | sched migrate -- -p";
 
 /// Pictures: the names of the files, how many workers there are, from where to where time goes, and how many marks there may be.
-const PICTURES: &str = "draw p t 64 None None 2000 | sched draw --workers 64 p t
+const TAKES_TWO_NAMES_AND_FOUR_NUMBERS_FOR_A_PICTURE: &str =
+    "draw p t 64 None None 2000 | sched draw --workers 64 p t
 draw p t 1 Some(3) None 2000 | sched draw p t --workers 1 --from 3
 draw p t 1 None Some(18446744073709551615) 2000 | sched draw p t --to 18446744073709551615 --workers 1
 draw p t 2 Some(18446744073709551615) Some(0) 18446744073709551615 | sched draw p --from=18446744073709551615 t --marks=18446744073709551615 --to=0 --workers=2
 draw p -t 1 None None 0 | sched draw --marks 0 --workers 1 -- p -t";
 
-#[test]
-fn takes_two_names_and_four_numbers_for_a_picture(rt: HostRuntime) -> Result<(), Fail> {
-    tells_each(&rt, PICTURES)
-}
-
 /// Live runs: how many workers there are, and the name of the file of their plan.
-const LIVE_RUNS: &str = "live 64 None | sched live --workers 64
+const TAKES_A_NUMBER_AND_MAYBE_A_NAME_FOR_A_LIVE_RUN: &str = "live 64 None | sched live --workers 64
 live 1 Some(\"p\") | sched live --plan p --workers=1
 live 2 Some(\"-p\") | sched live --workers 2 --plan=-p
 live 3 Some(\"\") | sched live --plan= --workers 3";
 
-#[test]
-fn takes_a_number_and_maybe_a_name_for_a_live_run(rt: HostRuntime) -> Result<(), Fail> {
-    tells_each(&rt, LIVE_RUNS)
-}
-
 /// Lints: the name of the plan's file, those of the events' and of the trace's, and how many workers there are.
-const LINTS: &str = "lint p None None None | sched lint p
+const TAKES_A_NAME_AND_MAYBE_OTHERS_FOR_A_LINT: &str = "lint p None None None | sched lint p
 lint p Some(\"e\") None None | sched lint p --events e
 lint p None Some(\"t\") Some(64) | sched lint p --trace t --workers 64
 lint -p Some(\"e\") Some(\"-\") Some(1) | sched lint --workers=1 --trace=- --events e -- -p";
 
-#[test]
-fn takes_a_name_and_maybe_others_for_a_lint(rt: HostRuntime) -> Result<(), Fail> {
-    tells_each(&rt, LINTS)
-}
-
 /// Command lines that the program ends at.
-const REFUSED: &str = "status 2 | sched check p --workers 1
+const REFUSES_WHAT_IS_MISSING_TOO_MUCH_OR_OUT_OF_RANGE: &str = "status 2 | sched check p --workers 1
 status 2 | sched check p t
 status 2 | sched check p t --workers 65
 status 2 | sched
@@ -210,73 +172,42 @@ status 0 | sched -V
 status 2 | sched run --version";
 
 #[test]
-fn refuses_what_is_missing_too_much_or_out_of_range(rt: HostRuntime) -> Result<(), Fail> {
-    tells_each(&rt, REFUSED)
+fn takes_each_command_line(rt: HostRuntime) -> Result<(), Fail> {
+    for table in [
+        TAKES_A_NAME_AND_TWO_NUMBERS,
+        TAKES_A_NAME_AND_TWO_NUMBERS_FOR_A_POOL,
+        TAKES_TWO_NAMES_AND_FOUR_NUMBERS_FOR_A_PICTURE,
+        TAKES_A_NUMBER_AND_MAYBE_A_NAME_FOR_A_LIVE_RUN,
+        TAKES_A_NAME_AND_MAYBE_OTHERS_FOR_A_LINT,
+        REFUSES_WHAT_IS_MISSING_TOO_MUCH_OR_OUT_OF_RANGE,
+        TAKES_NAMES,
+    ] {
+        tells_each(&rt, table)?;
+    }
+    Ok(())
 }
 
 /// How what is asked for is shown to programmers.
+const SHOWN: &str =
+    "Alone(Run(RunArguments { path: \"p\", workers: 2, limit: 3 })) | sched run p --workers 2 --limit 3
+Pool(RunArguments { path: \"p\", workers: 2, limit: 3 }) | sched pool p --workers 2 --limit 3
+Alone(Code(PlanArguments { path: \"p\" })) | sched code p
+Alone(Check(CheckArguments { path: \"p\", trace: \"t\", workers: 2 })) | sched check p t --workers 2
+Alone(Draw(DrawArguments { check: CheckArguments { path: \"p\", trace: \"t\", workers: 2 }, view: View { from: None, to: Some(3), marks: 4 } })) | sched draw p t --workers 2 --to 3 --marks 4
+Alone(Live(LiveArguments { workers: 2, plan: Some(\"p\") })) | sched live --workers 2 --plan p
+Lint(LintArguments { path: \"p\", events: None, trace: Some(\"t\"), workers: Some(2) }) | sched lint p --trace t --workers 2
+Alone(Migrate(PlanArguments { path: \"p\" })) | sched migrate p";
+
 #[test]
 fn shows_what_is_asked_for_to_programmers(rt: HostRuntime) -> Result<(), Fail> {
-    let run = RunArguments {
-        path: "p",
-        workers: 2,
-        limit: 3,
-    };
-    let check = CheckArguments {
-        path: "p",
-        trace: "t",
-        workers: 2,
-    };
-    let view = View {
-        from: None,
-        to: Some(3),
-        marks: 4,
-    };
-    for (asked, text) in [
-        (
-            Asked::Alone(AskedAlone::Run(run)),
-            "Alone(Run(RunArguments { path: \"p\", workers: 2, limit: 3 }))",
-        ),
-        (
-            Asked::Pool(run),
-            "Pool(RunArguments { path: \"p\", workers: 2, limit: 3 })",
-        ),
-        (
-            Asked::Alone(AskedAlone::Code(PlanArguments { path: "p" })),
-            "Alone(Code(PlanArguments { path: \"p\" }))",
-        ),
-        (
-            Asked::Alone(AskedAlone::Check(check)),
-            "Alone(Check(CheckArguments { path: \"p\", trace: \"t\", workers: 2 }))",
-        ),
-        (
-            Asked::Alone(AskedAlone::Draw(DrawArguments { check, view })),
-            "Alone(Draw(DrawArguments { check: CheckArguments { path: \"p\", trace: \"t\", workers: 2 }, \
-view: View { from: None, to: Some(3), marks: 4 } }))",
-        ),
-        (
-            Asked::Alone(AskedAlone::Live(LiveArguments {
-                workers: 2,
-                plan: Some("p"),
-            })),
-            "Alone(Live(LiveArguments { workers: 2, plan: Some(\"p\") }))",
-        ),
-        (
-            Asked::Lint(LintArguments {
-                path: "p",
-                events: None,
-                trace: Some("t"),
-                workers: Some(2),
-            }),
-            "Lint(LintArguments { path: \"p\", events: None, trace: Some(\"t\"), workers: Some(2) })",
-        ),
-        (
-            Asked::Alone(AskedAlone::Migrate(PlanArguments { path: "p" })),
-            "Alone(Migrate(PlanArguments { path: \"p\" }))",
-        ),
-    ] {
+    for row in SHOWN.lines() {
+        let (text, line) = row.split_once(" | ").ok_or("no command line")?;
+        let arguments = words_of(rt.alloc(), line)?;
+        let Ok(asked) = Asked::parse(rt.alloc(), &arguments) else {
+            return Err("a command line is refused".into());
+        };
         let shown = format!(in rt.alloc(); "{asked:?}")?;
-        assert!(rt; shown.as_str() == text, "{shown}");
+        assert!(rt; shown.as_str() == text, "{row}: {shown}");
     }
     Ok(())
 }

@@ -23,10 +23,10 @@ fn is_told_by(
     calls: u32,
 ) {
     let mut faults = Writing::new(Taking::new(rt.alloc(), script));
-    assert_eq!(rt; tell(&mut faults, answer), status);
+    assert!(rt; tell(&mut faults, answer) == status);
     let end = faults.into_inner();
     assert!(rt; end.taken() == line.as_bytes(), "{line}");
-    assert_eq!(rt; end.calls(), calls);
+    assert!(rt; end.calls() == calls);
 }
 
 /// Checks that a fault is told by just this line, at one call, and this status.
@@ -43,120 +43,125 @@ fn of_plan(kind: PlanFaultKind) -> ProgramError {
     }))
 }
 
+/// The kinds of faults of a plan, in the order of `KIND_NAMES`.
+const KINDS: [PlanFaultKind; 16] = [
+    PlanFaultKind::TooLong,
+    PlanFaultKind::Toml,
+    PlanFaultKind::Version,
+    PlanFaultKind::UnknownKey,
+    PlanFaultKind::Missing,
+    PlanFaultKind::WrongType,
+    PlanFaultKind::BadUnit,
+    PlanFaultKind::BadTimes,
+    PlanFaultKind::TooMany,
+    PlanFaultKind::BadName,
+    PlanFaultKind::DuplicateName,
+    PlanFaultKind::UnknownName,
+    PlanFaultKind::Ambiguous,
+    PlanFaultKind::Negative,
+    PlanFaultKind::TooLarge,
+    PlanFaultKind::OutOfOrder,
+];
+
+const KIND_NAMES: &str =
+    "TooLong Toml Version UnknownKey Missing WrongType BadUnit BadTimes TooMany \
+     BadName DuplicateName UnknownName Ambiguous Negative TooLarge OutOfOrder";
+
 #[test]
 fn tells_each_kind_of_plan_fault(rt: HostRuntime) -> Result<(), Fail> {
-    for (kind, name) in [
-        (PlanFaultKind::TooLong, "TooLong"),
-        (PlanFaultKind::Toml, "Toml"),
-        (PlanFaultKind::Version, "Version"),
-        (PlanFaultKind::UnknownKey, "UnknownKey"),
-        (PlanFaultKind::Missing, "Missing"),
-        (PlanFaultKind::WrongType, "WrongType"),
-        (PlanFaultKind::BadUnit, "BadUnit"),
-        (PlanFaultKind::BadTimes, "BadTimes"),
-        (PlanFaultKind::TooMany, "TooMany"),
-        (PlanFaultKind::BadName, "BadName"),
-        (PlanFaultKind::DuplicateName, "DuplicateName"),
-        (PlanFaultKind::UnknownName, "UnknownName"),
-        (PlanFaultKind::Ambiguous, "Ambiguous"),
-        (PlanFaultKind::Negative, "Negative"),
-        (PlanFaultKind::TooLarge, "TooLarge"),
-        (PlanFaultKind::OutOfOrder, "OutOfOrder"),
-    ] {
+    assert_eq!(rt; KINDS.len(), KIND_NAMES.split(' ').count());
+    for (kind, name) in KINDS.iter().zip(KIND_NAMES.split(' ')) {
         let line = format!(in rt.alloc(); "sched: plan: {name} block 3 call 2\n")?;
-        is_told(&rt, of_plan(kind), 1, line.as_str());
+        is_told(&rt, of_plan(*kind), 1, line.as_str());
     }
-    is_told(
-        &rt,
-        of_plan(PlanFaultKind::Memory),
-        1,
-        "sched: out of memory\n",
-    );
+    let memory = of_plan(PlanFaultKind::Memory);
+    is_told(&rt, memory, 1, "sched: out of memory\n");
+    Ok(())
+}
+
+/// The ends of a run, in the order of `LINES_OF_RUNS`.
+const RUNS: [RunError; 8] = [
+    RunError::EventLine(4_294_967_296),
+    RunError::Full,
+    RunError::Read,
+    RunError::Write,
+    RunError::Lost,
+    RunError::Memory,
+    RunError::Workers,
+    RunError::Limit,
+];
+
+const LINES_OF_RUNS: &str = "event line 4294967296
+full
+read fault
+write fault
+lost
+out of memory
+the number of workers is not 1 to 64
+the limit on events is 0";
+
+/// Why there is no picture, in the order of `LINES_OF_PICTURES`.
+const PICTURES: [DrawError; 5] = [
+    DrawError::Workers,
+    DrawError::Window,
+    DrawError::Crowded { marks: 2_001 },
+    DrawError::Write,
+    DrawError::Memory,
+];
+
+const LINES_OF_PICTURES: &str = "the number of workers is not 1 to 64
+the picture ends before it begins
+2001 marks or bars are too many: --from and --to narrow the picture
+write fault
+out of memory";
+
+/// Faults of files, and the greatest number, in the order of `LINES_OF_FILES`.
+const FILES: [ProgramError; 5] = [
+    ProgramError::PlanFile,
+    ProgramError::PlanUnwritten,
+    ProgramError::TraceFile,
+    ProgramError::TraceTooLong,
+    ProgramError::Crowded(u64::MAX),
+];
+
+const LINES_OF_FILES: &str = "plan file not read
+plan file not written
+trace file not read
+trace file too long
+18446744073709551615 marks or bars are too many: --from and --to narrow the picture";
+
+/// Checks that a fault is told by a line, which `sched: ` begins, with status 1.
+fn is_line(rt: &(impl AllocGlobal + Abort), fault: ProgramError, line: &str) -> Result<(), Fail> {
+    let line = format!(in rt.alloc(); "sched: {line}\n")?;
+    is_told(rt, fault, 1, line.as_str());
     Ok(())
 }
 
 #[test]
-fn tells_each_end_of_a_run(rt: HostRuntime) {
-    for (error, line) in [
-        (
-            RunError::EventLine(4_294_967_296),
-            "sched: event line 4294967296\n",
-        ),
-        (RunError::Full, "sched: full\n"),
-        (RunError::Read, "sched: read fault\n"),
-        (RunError::Write, "sched: write fault\n"),
-        (RunError::Lost, "sched: lost\n"),
-        (RunError::Memory, "sched: out of memory\n"),
-        (
-            RunError::Workers,
-            "sched: the number of workers is not 1 to 64\n",
-        ),
-        (RunError::Limit, "sched: the limit on events is 0\n"),
-    ] {
-        is_told(&rt, ProgramError::from(error), 1, line);
+fn tells_each_error(rt: HostRuntime) -> Result<(), Fail> {
+    let lines = [LINES_OF_RUNS, LINES_OF_PICTURES, LINES_OF_FILES];
+    assert_eq!(rt;
+        [RUNS.len(), PICTURES.len(), FILES.len()],
+        lines.map(|lines| lines.lines().count())
+    );
+    for (error, line) in RUNS.iter().zip(LINES_OF_RUNS.lines()) {
+        is_line(&rt, ProgramError::from(*error), line)?;
     }
+    for (error, line) in PICTURES.iter().zip(LINES_OF_PICTURES.lines()) {
+        is_line(&rt, ProgramError::from(*error), line)?;
+    }
+    for (error, line) in FILES.iter().zip(LINES_OF_FILES.lines()) {
+        is_line(&rt, *error, line)?;
+    }
+    Ok(())
 }
 
 #[test]
-fn tells_why_there_is_no_picture(rt: HostRuntime) {
-    for (error, line) in [
-        (
-            DrawError::Workers,
-            "sched: the number of workers is not 1 to 64\n",
-        ),
-        (
-            DrawError::Window,
-            "sched: the picture ends before it begins\n",
-        ),
-        (
-            DrawError::Crowded { marks: 2_001 },
-            "sched: 2001 marks or bars are too many: --from and --to narrow the picture\n",
-        ),
-        (DrawError::Write, "sched: write fault\n"),
-        (DrawError::Memory, "sched: out of memory\n"),
-    ] {
-        is_told(&rt, ProgramError::from(error), 1, line);
-    }
-}
-
-#[test]
-fn tells_faults_of_the_plan_file_and_of_the_arguments(rt: HostRuntime) {
-    is_told(
-        &rt,
-        ProgramError::PlanFile,
-        1,
-        "sched: plan file not read\n",
-    );
-    is_told(
-        &rt,
-        ProgramError::PlanUnwritten,
-        1,
-        "sched: plan file not written\n",
-    );
-    is_told(
-        &rt,
-        ProgramError::TraceFile,
-        1,
-        "sched: trace file not read\n",
-    );
-    is_told(
-        &rt,
-        ProgramError::TraceTooLong,
-        1,
-        "sched: trace file too long\n",
-    );
-    is_told(
-        &rt,
-        ProgramError::Arguments,
-        2,
-        "sched: command line not UTF-8\n",
-    );
-    is_told(
-        &rt,
-        ProgramError::LintOptions,
-        2,
-        "sched: --events stands alone, and --trace and --workers stand together\n",
-    );
+fn tells_faults_of_the_arguments(rt: HostRuntime) {
+    let line = "sched: command line not UTF-8\n";
+    is_told(&rt, ProgramError::Arguments, 2, line);
+    let line = "sched: --events stands alone, and --trace and --workers stand together\n";
+    is_told(&rt, ProgramError::LintOptions, 2, line);
 }
 
 #[test]
@@ -190,25 +195,16 @@ fn tells_a_status_by_no_line(rt: HostRuntime) {
     }
 }
 
-/// The longest lines: that of a crowd, and that of a plan.
+/// The longest line of a plan.
 #[test]
 fn tells_the_greatest_numbers(rt: HostRuntime) {
-    is_told(
-        &rt,
-        ProgramError::Crowded(u64::MAX),
-        1,
-        "sched: 18446744073709551615 marks or bars are too many: --from and --to narrow the picture\n",
-    );
-    is_told(
-        &rt,
-        ProgramError::Run(RunError::Plan(PlanFault {
-            kind: PlanFaultKind::DuplicateName,
-            block: u32::MAX,
-            call: u32::MAX,
-        })),
-        1,
-        "sched: plan: DuplicateName block 4294967295 call 4294967295\n",
-    );
+    let fault = PlanFault {
+        kind: PlanFaultKind::DuplicateName,
+        block: u32::MAX,
+        call: u32::MAX,
+    };
+    let line = "sched: plan: DuplicateName block 4294967295 call 4294967295\n";
+    is_told(&rt, ProgramError::Run(RunError::Plan(fault)), 1, line);
 }
 
 /// Where standard error is at fault, the status tells the error, and a front of the line stands there.
@@ -244,26 +240,34 @@ fn tells_an_error_by_its_status_where_standard_error_is_at_fault(rt: HostRuntime
     }
 }
 
+/// Errors, in the order of `SHOWN`.
+const ERRORS: [ProgramError; 6] = [
+    ProgramError::LintOptions,
+    ProgramError::TraceTooLong,
+    ProgramError::PlanUnwritten,
+    ProgramError::EndsFirst,
+    ProgramError::Crowded(3),
+    ProgramError::Run(RunError::EventLine(9)),
+];
+
 /// How errors are shown to programmers.
+const SHOWN: &str = "LintOptions
+TraceTooLong
+PlanUnwritten
+EndsFirst
+Crowded(3)
+Run(EventLine(9))";
+
 #[test]
 fn shows_errors_to_programmers(rt: HostRuntime) -> Result<(), Fail> {
-    for (error, text) in [
-        (ProgramError::LintOptions, "LintOptions"),
-        (ProgramError::TraceTooLong, "TraceTooLong"),
-        (ProgramError::PlanUnwritten, "PlanUnwritten"),
-        (ProgramError::EndsFirst, "EndsFirst"),
-        (ProgramError::Crowded(3), "Crowded(3)"),
-        (
-            ProgramError::Run(RunError::EventLine(9)),
-            "Run(EventLine(9))",
-        ),
-        (
-            of_plan(PlanFaultKind::BadName),
-            "Run(Plan(PlanFault { kind: BadName, block: 3, call: 2 }))",
-        ),
-    ] {
+    assert_eq!(rt; ERRORS.len(), SHOWN.lines().count());
+    for (error, text) in ERRORS.iter().zip(SHOWN.lines()) {
         let shown = format!(in rt.alloc(); "{error:?}")?;
         assert!(rt; shown.as_str() == text, "{shown}");
     }
+    let of_plan = of_plan(PlanFaultKind::BadName);
+    let shown = format!(in rt.alloc(); "{of_plan:?}")?;
+    let text = "Run(Plan(PlanFault { kind: BadName, block: 3, call: 2 }))";
+    assert!(rt; shown.as_str() == text, "{shown}");
     Ok(())
 }

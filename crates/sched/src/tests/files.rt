@@ -1,6 +1,6 @@
 //! How much of a plan file is read, and what a fault of it comes to.
 
-use super::world::{Given, GivenFile};
+use super::world::{Given, file};
 use super::{ONE_DELAY, ends_given, given};
 use crate::error::ProgramError;
 use crate::files::{MOST_OF_PLAN, MOST_OF_TRACE, plan_front, plan_text, trace_text, whole_trace};
@@ -12,7 +12,7 @@ use std::io::ErrorKind;
 use std::test::Fail;
 
 /// The command line of a run of `plan.toml`.
-const RUN: [&[u8]; 5] = [b"sched", b"run", b"plan.toml", b"--workers", b"1"];
+const RUN: &str = "sched run plan.toml --workers 1";
 
 #[test]
 fn reads_one_byte_more_than_a_plan_may_have(rt: HostRuntime) -> Result<(), Fail> {
@@ -27,9 +27,9 @@ fn reads_one_byte_more_than_a_plan_may_have(rt: HostRuntime) -> Result<(), Fail>
         let bytes = " ".repeat(alloc, length)?;
         let mut file = Pieces::new(bytes.as_bytes(), 100_000);
         let text = plan_front(alloc, &mut file);
-        assert_eq!(rt; text.ok().map(|text| text.len()), Some(read));
+        assert!(rt; text.ok().map(|text| text.len()) == Some(read));
     }
-    assert_eq!(rt; MOST_OF_PLAN, 1_048_577);
+    assert!(rt; MOST_OF_PLAN == 1_048_577);
     Ok(())
 }
 
@@ -40,13 +40,9 @@ fn tells_a_file_that_is_too_long(rt: HostRuntime) -> Result<(), Fail> {
         (1_048_576, "sched: plan: Version block 0 call 0\n"),
     ] {
         let bytes = " ".repeat(rt.alloc(), length)?;
-        let plan = GivenFile {
-            rest: bytes.as_bytes(),
-            is_broken: false,
-        };
         let given = Given {
-            plan,
-            ..given(&RUN, "")
+            plan: file(bytes.as_str(), false),
+            ..given(RUN, "")
         };
         ends_given(&rt, given, 1, "", line);
     }
@@ -55,17 +51,13 @@ fn tells_a_file_that_is_too_long(rt: HostRuntime) -> Result<(), Fail> {
 
 #[test]
 fn does_not_take_a_broken_file_for_its_front(rt: HostRuntime) {
-    let broken = GivenFile {
-        rest: b"version = 1\n",
-        is_broken: true,
-    };
-    assert_eq!(rt;
-        plan_front(rt.alloc(), &mut Reading::new(broken)).err(),
-        Some(ProgramError::PlanFile)
+    let broken = file("version = 1\n", true);
+    assert!(rt;
+        plan_front(rt.alloc(), &mut Reading::new(broken)).err() == Some(ProgramError::PlanFile)
     );
     let given = Given {
         plan: broken,
-        ..given(&RUN, "")
+        ..given(RUN, "")
     };
     ends_given(&rt, given, 1, "", "sched: plan file not read\n");
 }
@@ -74,41 +66,35 @@ fn does_not_take_a_broken_file_for_its_front(rt: HostRuntime) {
 #[test]
 fn reads_no_byte_past_those_that_it_takes(rt: HostRuntime) -> Result<(), Fail> {
     let bytes = "#".repeat(rt.alloc(), MOST_OF_PLAN)?;
-    let broken = GivenFile {
-        rest: bytes.as_bytes(),
-        is_broken: true,
-    };
+    let broken = file(bytes.as_str(), true);
     let text = plan_front(rt.alloc(), &mut Reading::new(broken));
-    assert_eq!(rt; text.ok().map(|text| text.len()), Some(MOST_OF_PLAN));
+    assert!(rt; text.ok().map(|text| text.len()) == Some(MOST_OF_PLAN));
     Ok(())
 }
 
 #[test]
 fn does_not_take_a_missing_file_for_an_empty_one(rt: HostRuntime) {
-    assert_eq!(rt;
+    assert!(rt;
         plan_text(
             rt.alloc(),
             fs::open(&rt, "no such plan.toml").map(Reading::new)
         )
-        .err(),
-        Some(ProgramError::PlanFile)
+        .err()
+            == Some(ProgramError::PlanFile)
     );
-    let given = Given {
-        name: "another.toml",
-        ..given(&RUN, "")
-    };
+    let given = given("sched run another.toml --workers 1", "");
     ends_given(&rt, given, 1, "", "sched: plan file not read\n");
 }
 
 /// That a longer trace than the longest is refused is a clause of [`whole_trace`]; to read so much takes too long here.
 #[test]
 fn reads_the_whole_of_a_trace(rt: HostRuntime) {
-    assert_eq!(rt; MOST_OF_TRACE, 67_108_865);
+    assert!(rt; MOST_OF_TRACE == 67_108_865);
     let text = whole_trace(rt.alloc(), &mut Pieces::new(b"0 clock\n", 3));
-    assert_eq!(rt; text.ok().map(|text| text.len()), Some(8));
-    assert_eq!(rt;
-        trace_text(rt.alloc(), fs::open(&rt, "no such trace").map(Reading::new)).err(),
-        Some(ProgramError::TraceFile)
+    assert!(rt; text.ok().map(|text| text.len()) == Some(8));
+    assert!(rt;
+        trace_text(rt.alloc(), fs::open(&rt, "no such trace").map(Reading::new)).err()
+            == Some(ProgramError::TraceFile)
     );
 }
 
@@ -139,7 +125,7 @@ fn reads_a_file_that_is_interrupted(rt: HostRuntime) {
             };
             let (text, called) = read_of(rt.alloc(), is_trace, ONE_DELAY, script);
             assert!(rt; text.is_ok_and(|text| text.as_slice() == ONE_DELAY.as_bytes()));
-            assert_eq!(rt; called, calls);
+            assert!(rt; called == calls);
         }
     }
 }
@@ -170,8 +156,8 @@ fn tells_a_file_that_is_at_fault(rt: HostRuntime) {
                 ..fails
             };
             let (text, called) = read_of(rt.alloc(), is_trace, ONE_DELAY, script);
-            assert_eq!(rt; text.err(), Some(fault));
-            assert_eq!(rt; called, calls);
+            assert!(rt; text.err() == Some(fault));
+            assert!(rt; called == calls);
         }
     }
 }

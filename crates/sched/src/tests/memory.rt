@@ -1,9 +1,8 @@
 //! Memory: what a command takes comes back, also where it is refused some.
 
 use super::ONE_DELAY;
-use crate::arguments::{
-    AskedAlone, CheckArguments, DrawArguments, LiveArguments, PlanArguments, RunArguments,
-};
+use super::command_line::words_of;
+use crate::arguments::{Asked, AskedAlone};
 use crate::error::ProgramError;
 use crate::serving::answer_alone;
 use byte_ends::{Pieces, Writing};
@@ -12,7 +11,7 @@ use sched_engine::RunError;
 use std::alloc::Global;
 use std::io;
 use std::process::Abort;
-use trace_svg::View;
+use std::test::Fail;
 
 /// A trace of the plan of one delayed task.
 const TRACE: &str = "0 submit 0 schedule due 5\n5 clock\n5 start 0 task 0 run 0 due 5\n7 clock\n\
@@ -62,7 +61,7 @@ fn gives_back(rt: &(impl AllocGlobal + Abort), asked: AskedAlone<'_>, status: u8
             heap.used()
         );
         if !heap.has_refused() {
-            assert_eq!(rt; answer, Ok(status));
+            assert!(rt; answer == Ok(status));
             has_all = number > 1;
             break;
         }
@@ -74,58 +73,27 @@ fn gives_back(rt: &(impl AllocGlobal + Abort), asked: AskedAlone<'_>, status: u8
     assert!(rt; has_all, "{asked:?}");
 }
 
+/// Commands, and the statuses with which they end.
+const COMMANDS: &str = "0 | sched run plan --workers 1 --limit 100
+0 | sched code plan
+0 | sched tasks plan
+0 | sched check plan trace --workers 1
+1 | sched check plan breaks --workers 1
+0 | sched migrate plan
+0 | sched draw plan trace --workers 1 --marks 10
+1 | sched draw plan breaks --workers 1 --marks 10
+0 | sched live --workers 1
+0 | sched live --workers 1 --plan calls";
+
 #[test]
-fn each_command_gives_back_what_it_took(rt: HostRuntime) {
-    let plan = PlanArguments { path: "plan" };
-    let run = RunArguments {
-        path: "plan",
-        workers: 1,
-        limit: 100,
-    };
-    let check = CheckArguments {
-        path: "plan",
-        trace: "trace",
-        workers: 1,
-    };
-    let breaks = CheckArguments {
-        trace: "breaks",
-        ..check
-    };
-    let view = View {
-        from: None,
-        to: None,
-        marks: 10,
-    };
-    for (asked, status) in [
-        (AskedAlone::Run(run), 0),
-        (AskedAlone::Code(plan), 0),
-        (AskedAlone::Tasks(plan), 0),
-        (AskedAlone::Check(check), 0),
-        (AskedAlone::Check(breaks), 1),
-        (AskedAlone::Migrate(plan), 0),
-        (AskedAlone::Draw(DrawArguments { check, view }), 0),
-        (
-            AskedAlone::Draw(DrawArguments {
-                check: breaks,
-                view,
-            }),
-            1,
-        ),
-        (
-            AskedAlone::Live(LiveArguments {
-                workers: 1,
-                plan: None,
-            }),
-            0,
-        ),
-        (
-            AskedAlone::Live(LiveArguments {
-                workers: 1,
-                plan: Some("calls"),
-            }),
-            0,
-        ),
-    ] {
-        gives_back(&rt, asked, status);
+fn each_command_gives_back_what_it_took(rt: HostRuntime) -> Result<(), Fail> {
+    for row in COMMANDS.lines() {
+        let (status, line) = row.split_once(" | ").ok_or("no command")?;
+        let arguments = words_of(rt.alloc(), line)?;
+        let Ok(Asked::Alone(asked)) = Asked::parse(rt.alloc(), &arguments) else {
+            return Err("no command of one thread".into());
+        };
+        gives_back(&rt, asked, status.parse::<u8>()?);
     }
+    Ok(())
 }

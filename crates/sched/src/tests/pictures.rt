@@ -1,9 +1,10 @@
 //! Pictures of a small trace.
-
-use super::world::{Given, GivenFile, run_in};
-use super::{ends, ends_given, given};
+use super::world::{Given, file, run_in};
+use super::{ends, given};
 use std::process::{Abort, ExitCode};
+use std::sync::Wait;
 use std::test::Fail;
+use std::thread::Threads;
 
 /// A trace of the plan of one delayed task.
 const TRACE: &str = "0 submit 0 schedule due 5\n5 clock\n5 start 0 task 0 run 0 due 5\n7 clock\n\
@@ -29,149 +30,135 @@ const PARTS_TO_5: [&str; 4] = [
     "<use class=\"clock\" href=\"#clock\" x=\"1170\" y=\"134\"><title>5 clock\n</title></use>\n</svg>\n",
 ];
 
-/// The command line of a picture of `trace.txt` with one worker.
-const DRAW: [&[u8]; 6] = [
-    b"sched",
-    b"draw",
-    b"plan.toml",
-    b"trace.txt",
-    b"--workers",
-    b"1",
-];
-
-/// A file of these bytes.
-fn file(rest: &[u8]) -> GivenFile<'_> {
-    GivenFile {
-        rest,
-        is_broken: false,
-    }
+/// What the program prints to a command line that reads the trace, with status 0 and no fault.
+fn drawn<R: AllocGlobal + Abort + Threads + Wait + Sync>(rt: &R, line: &str) -> Vec<u8> {
+    let given = Given {
+        trace: file(TRACE, false),
+        ..given(line, "")
+    };
+    let ended = run_in(rt, given);
+    assert!(rt; ended.status == ExitCode::from(0) && ended.err.is_empty());
+    ended.out
 }
 
-/// What is given to a command line that reads the trace.
-fn with_trace<'a>(arguments: &'a [&'a [u8]]) -> Given<'a> {
-    Given {
-        trace: file(TRACE.as_bytes()),
-        ..given(arguments, "")
+/// Checks that a picture begins with the first of its parts, has the others in their order, and ends with the last one.
+fn has_each<R: AllocGlobal + Abort + Threads + Wait + Sync>(
+    rt: &R,
+    line: &str,
+    parts: &[&str],
+) -> Result<(), Fail> {
+    let out = drawn(rt, line);
+    let mut rest = std::str::from_utf8(&out)?;
+    assert!(rt; rest.starts_with(PARTS[0]));
+    for part in parts {
+        let (_, behind) = rest.split_once(*part).ok_or(*part)?;
+        rest = behind;
     }
-}
-
-/// What is given to a command line that reads a trace whose third line has a worker that is not there.
-fn with_broken_trace<'a>(arguments: &'a [&'a [u8]]) -> Given<'a> {
-    Given {
-        trace: file(b"0 submit 0 schedule due 5\n5 clock\n5 start 1 task 0 run 0 due 5\n"),
-        ..given(arguments, "")
-    }
-}
-
-/// A picture of the trace with an option and its value.
-fn with_option<'a>(option: &'a [u8], value: &'a [u8]) -> [&'a [u8]; 8] {
-    let [sched, draw, plan, trace, workers, one] = DRAW;
-    [sched, draw, plan, trace, workers, one, option, value]
+    assert!(rt; rest.is_empty());
+    Ok(())
 }
 
 #[test]
 fn draws_a_trace(rt: HostRuntime) -> Result<(), Fail> {
-    let to_5 = with_option(b"--to", b"5");
-    for (given, parts) in [
-        (with_trace(&DRAW), PARTS.as_slice()),
-        (with_trace(&to_5), PARTS_TO_5.as_slice()),
-    ] {
-        let ended = run_in(&rt, given);
-        assert_eq!(rt; ended.status, ExitCode::from(0));
-        assert!(rt; ended.err.is_empty());
-        let mut rest = std::str::from_utf8(&ended.out)?;
-        assert!(rt; rest.starts_with(PARTS[0]));
-        for part in parts {
-            let (_, behind) = rest.split_once(*part).ok_or(*part)?;
-            rest = behind;
-        }
-        assert!(rt; rest.is_empty());
-    }
-    Ok(())
+    has_each(&rt, "sched draw plan.toml trace.txt --workers 1", &PARTS)?;
+    has_each(
+        &rt,
+        "sched draw plan.toml trace.txt --workers 1 --to 5",
+        &PARTS_TO_5,
+    )
 }
 
 #[test]
-fn draws_the_window_that_is_asked_for(rt: HostRuntime) -> Result<(), Fail> {
-    let from_6 = with_option(b"--from", b"6");
-    let ended = run_in(&rt, with_trace(&from_6));
-    let text = std::str::from_utf8(&ended.out)?;
+fn draws_the_window_and_the_workers_that_are_asked_for(rt: HostRuntime) -> Result<(), Fail> {
+    let out = drawn(&rt, "sched draw plan.toml trace.txt --workers 1 --from 6");
+    let text = std::str::from_utf8(&out)?;
     assert!(rt; text.contains("<title>7 clock\n"));
     assert!(rt; !text.contains("<title>5 clock\n"));
     assert!(rt; !text.contains("<title>0 submit"));
+    let out = drawn(&rt, "sched draw plan.toml trace.txt --workers 2");
+    assert!(rt; std::str::from_utf8(&out)?.contains(">worker 1</text>\n"));
+    // As many marks as there are.
+    let out = drawn(&rt, "sched draw plan.toml trace.txt --workers 1 --marks 3");
+    assert!(rt; !out.is_empty());
     Ok(())
 }
 
-#[test]
-fn tells_where_a_trace_that_is_to_be_drawn_breaks(rt: HostRuntime) {
-    ends_given(&rt, with_broken_trace(&DRAW), 1, "breaks 3\n", "");
-    let mut closed = with_broken_trace(&DRAW);
-    closed.is_closed = true;
-    ends_given(&rt, closed, 1, "", "sched: write fault\n");
-    let none = with_option(b"--marks", b"0");
-    ends_given(&rt, with_broken_trace(&none), 1, "breaks 3\n", "");
-}
+/// The third line of the trace has a worker that is not there.
+pub const TELLS_WHERE_A_TRACE_THAT_IS_TO_BE_DRAWN_BREAKS: &str =
+    "# tells where a trace that is to be drawn breaks
+$ sched draw plan.toml trace.txt --workers 1
+trace 0 submit 0 schedule due 5
+trace 5 clock
+trace 5 start 1 task 0 run 0 due 5
+> breaks 3
+= 1
+$ sched draw plan.toml trace.txt --workers 1
+with closed output
+trace 0 submit 0 schedule due 5
+trace 5 clock
+trace 5 start 1 task 0 run 0 due 5
+! sched: write fault
+$ sched draw plan.toml trace.txt --workers 1 --marks 0
+trace 0 submit 0 schedule due 5
+trace 5 clock
+trace 5 start 1 task 0 run 0 due 5
+> breaks 3
+= 1
+";
 
-#[test]
-fn draws_with_the_workers_of_the_command_line(rt: HostRuntime) -> Result<(), Fail> {
-    let [sched, draw, plan, trace, workers, _] = DRAW;
-    let two = [sched, draw, plan, trace, workers, b"2"];
-    let ended = run_in(&rt, with_trace(&two));
-    assert_eq!(rt; ended.status, ExitCode::from(0));
-    assert!(rt; std::str::from_utf8(&ended.out)?.contains(">worker 1</text>\n"));
-    Ok(())
-}
+pub const TELLS_FAULTS_OF_A_PICTURE: &str = "# tells faults of a picture
+$ sched draw plan.toml trace.txt --workers 1 --marks 2
+trace 0 submit 0 schedule due 5
+trace 5 clock
+trace 5 start 0 task 0 run 0 due 5
+trace 7 clock
+trace 7 finish 0 task 0 run 0 done 7
+! sched: 3 marks or bars are too many: --from and --to narrow the picture
+$ sched draw plan.toml trace.txt --workers 1 --from 8
+trace 0 submit 0 schedule due 5
+trace 5 clock
+trace 5 start 0 task 0 run 0 due 5
+trace 7 clock
+trace 7 finish 0 task 0 run 0 done 7
+! sched: the picture ends before it begins
+$ sched draw plan.toml trace.txt --workers 1
+with closed output
+trace 0 submit 0 schedule due 5
+trace 5 clock
+trace 5 start 0 task 0 run 0 due 5
+trace 7 clock
+trace 7 finish 0 task 0 run 0 done 7
+! sched: write fault
+";
 
-#[test]
-fn tells_faults_of_a_picture(rt: HostRuntime) {
-    let crowded = with_option(b"--marks", b"2");
-    ends_given(
-        &rt,
-        with_trace(&crowded),
-        1,
-        "",
-        "sched: 3 marks or bars are too many: --from and --to narrow the picture\n",
-    );
-    let late = with_option(b"--from", b"8");
-    ends_given(
-        &rt,
-        with_trace(&late),
-        1,
-        "",
-        "sched: the picture ends before it begins\n",
-    );
-    let mut closed = with_trace(&DRAW);
-    closed.is_closed = true;
-    ends_given(&rt, closed, 1, "", "sched: write fault\n");
-    let enough = with_option(b"--marks", b"3");
-    let ended = run_in(&rt, with_trace(&enough));
-    assert_eq!(rt; ended.status, ExitCode::from(0));
-}
-
-#[test]
-fn tells_faults_of_the_files_of_a_picture(rt: HostRuntime) {
-    let mut broken = with_trace(&DRAW);
-    broken.trace.is_broken = true;
-    ends_given(&rt, broken, 1, "", "sched: trace file not read\n");
-    broken.plan = file(b"version = 3\n");
-    ends_given(&rt, broken, 1, "", "sched: plan: Version block 0 call 0\n");
-    broken.name = "other.toml";
-    ends_given(&rt, broken, 1, "", "sched: plan file not read\n");
-    let words: [&[u8]; 5] = [b"sched", b"draw", b"plan.toml", b"trace", b"--workers=1"];
-    ends_given(
-        &rt,
-        given(&words, ""),
-        1,
-        "",
-        "sched: trace file not read\n",
-    );
-}
+pub const TELLS_FAULTS_OF_THE_FILES_OF_A_PICTURE: &str = "# tells faults of the files of a picture
+$ sched draw plan.toml trace.txt --workers 1
+with broken trace
+trace 0 submit 0 schedule due 5
+trace 5 clock
+! sched: trace file not read
+$ sched draw plan.toml trace.txt --workers 1
+with broken trace
+plan version = 3
+trace 0 submit 0 schedule due 5
+trace 5 clock
+! sched: plan: Version block 0 call 0
+$ sched draw other.toml trace.txt --workers 1
+with broken trace
+plan version = 3
+trace 0 submit 0 schedule due 5
+trace 5 clock
+! sched: plan file not read
+$ sched draw plan.toml trace --workers=1
+! sched: trace file not read
+";
 
 /// A trace that has no line is one, and its picture no bar and no mark.
 #[test]
 fn draws_a_trace_of_no_line(rt: HostRuntime) {
-    let none = with_option(b"--marks", b"0");
-    let ended = run_in(&rt, given(&none, ""));
+    let line = "sched draw plan.toml trace.txt --workers 1 --marks 0";
+    let ended = run_in(&rt, given(line, ""));
     assert!(rt; ended.out.ends_with(b"</svg>\n"));
     let out = std::str::from_utf8(&ended.out).unwrap_or("");
-    ends(&rt, &ended, 0, out, "");
+    ends(&rt, line, &ended, 0, out, "");
 }

@@ -23,12 +23,20 @@ pub struct GivenFile<'a> {
     pub is_broken: bool,
 }
 
-/// The command line, the plan file with its name, the file `trace.txt`, standard input, whether standard output is closed, and what
-/// files are created with, where any can be: each one holds what all of them do.
+/// A file of this text, and whether it is at fault behind it.
+pub fn file(text: &str, is_broken: bool) -> GivenFile<'_> {
+    GivenFile {
+        rest: text.as_bytes(),
+        is_broken,
+    }
+}
+
+/// The command line, whose words have a space between them and in which `ÿ` is a word that is no text; the files `plan.toml` and
+/// `trace.txt`, standard input, whether standard output is closed, and what files are created with, where any can be: each one holds
+/// what all of them do.
 #[derive(Clone, Copy)]
 pub struct Given<'a> {
-    pub arguments: &'a [&'a [u8]],
-    pub name: &'a str,
+    pub line: &'a str,
     pub plan: GivenFile<'a>,
     pub trace: GivenFile<'a>,
     pub events: &'a [u8],
@@ -162,8 +170,13 @@ impl Alloc for World<'_> {
 
 impl Env for World<'_> {
     fn arg(&self, i: usize, buf: &mut [u8]) -> Result<usize, FillError> {
-        let Some(argument) = self.given.arguments.get(i) else {
+        let Some(word) = self.given.line.split(' ').nth(i) else {
             return Err(FillError::NotPresent);
+        };
+        let argument = if word == "ÿ" {
+            b"\xff"
+        } else {
+            word.as_bytes()
         };
         if argument.len() > buf.len() {
             return Err(FillError::TooLong);
@@ -248,7 +261,7 @@ impl<'a> Files for World<'a> {
         if path == "trace.txt" {
             return Ok(OpenedFile::Given(self.given.trace));
         }
-        if path != self.given.name {
+        if path != "plan.toml" {
             return Err(io::Error::from(ErrorKind::NotFound));
         }
         Ok(OpenedFile::Given(self.given.plan))

@@ -105,7 +105,7 @@ fn a_long_listing_is_whole(rt: HostRuntime) -> Result<(), Fail> {
     }
     listing.push_str("16384 halt\n")?;
     let mut writer = Writing::new(Vec::new(alloc));
-    let answer = write_listing(alloc, plan.as_bytes(), &mut writer);
+    let answer = write_listing(alloc, plan.as_bytes(), &mut writer).map_err(RunError::from);
     assert!(rt; answer == Ok(()), "{answer:?}");
     assert!(rt; writer.into_inner().as_slice() == listing.as_bytes());
     Ok(())

@@ -6,7 +6,7 @@ use crate::listing::write_listing;
 /// What the writing of a listing answered, and what it wrote.
 fn listed(alloc: Global, plan: &str) -> (Result<(), RunError>, Vec<u8>) {
     let mut writer = Writing::new(Vec::new(alloc));
-    let answer = write_listing(alloc, plan.as_bytes(), &mut writer);
+    let answer = write_listing(alloc, plan.as_bytes(), &mut writer).map_err(RunError::from);
     (answer, writer.into_inner())
 }
 
@@ -20,7 +20,7 @@ fn lists(rt: &(impl AllocGlobal + Abort), plan: &str, listing: &str) {
 #[test]
 fn lists_the_code_of_a_plan(rt: HostRuntime) {
     lists(&rt, "version = 1", "0 halt\n");
-    lists(&rt, ONE_DELAY, "0 submit 0 schedule 5\n1 halt\n");
+    lists(&rt, ONE_DELAY.plan, "0 submit 0 schedule 5\n1 halt\n");
     lists(
         &rt,
         "version = 1
@@ -89,16 +89,18 @@ fn tells_a_writer_that_takes_no_more(rt: HostRuntime) {
     let alloc = rt.alloc();
     for left in [0usize, 1, 28] {
         let mut writer = Writing::new(Short { left });
-        let answer = write_listing(alloc, ONE_DELAY.as_bytes(), &mut writer);
+        let answer = write_listing(alloc, ONE_DELAY.plan.as_bytes(), &mut writer).map_err(
+            RunError::from,
+        );
         assert!(rt; answer == Err(RunError::Write), "{left}");
     }
     let mut writer = Writing::new(Short { left: 29 });
-    assert!(rt; write_listing(alloc, ONE_DELAY.as_bytes(), &mut writer) == Ok(()));
+    assert!(rt; write_listing(alloc, ONE_DELAY.plan.as_bytes(), &mut writer).is_ok());
 }
 
 #[test]
 fn gives_the_core_of_a_plan(rt: HostRuntime) -> Result<(), Fail> {
-    let plan = ONE_DELAY.as_bytes();
+    let plan = ONE_DELAY.plan.as_bytes();
     let core = core_of(rt.alloc(), plan, 2, 9)?;
     assert_eq!(rt; core.tasks(), 1);
     assert_eq!(rt; core.taken(), 0);

@@ -158,7 +158,7 @@ fn one_clock_makes_all_calls(rt: HostRuntime) -> Result<(), Fail> {
     let (plan, trace) = many_calls(rt.alloc())?;
     answers(
         &rt,
-        &Row {
+        &Run {
             plan: plan.as_str(),
             limit: 9,
             events: "clock 1000\n",

@@ -57,9 +57,9 @@ pub fn plays(rt: &(impl AllocGlobal + Abort), row: &ScriptedRow<'_>) {
 /// The example, read in pieces of 8 bytes, which are its first lines.
 fn example() -> ScriptedRow<'static> {
     ScriptedRow {
-        plan: ONE_DELAY,
+        plan: ONE_DELAY.plan,
         limit: 1_000_000,
-        events: EVENTS,
+        events: ONE_DELAY.events,
         again: "",
         reader: Script::smooth(8),
         writer: Script::smooth(65_536),
@@ -67,9 +67,9 @@ fn example() -> ScriptedRow<'static> {
             events: 7,
             lines: 8,
         }),
-        text: TRACE,
-        least: TRACE.len(),
-        greatest: TRACE.len(),
+        text: ONE_DELAY.trace,
+        least: ONE_DELAY.trace.len(),
+        greatest: ONE_DELAY.trace.len(),
     }
 }
 

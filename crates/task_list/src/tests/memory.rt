@@ -43,7 +43,7 @@ fn tallied(rt: &(impl AllocGlobal + Abort), plan: &str) -> (usize, usize) {
         taken: 0,
         most_used: 0,
     });
-    let answer = write_tasks(&heap, plan.as_bytes(), &mut writer);
+    let answer = write_tasks(&heap, plan.as_bytes(), &mut writer).map_err(RunError::from);
     assert!(rt; answer == Ok(()), "{answer:?}");
     let tally = writer.into_inner();
     (tally.taken, tally.most_used)
@@ -84,7 +84,7 @@ fn is_refused(rt: &(impl AllocGlobal + Abort), number: u64) -> bool {
     let heap = Refusing::new(rt.alloc());
     heap.refuse(number);
     let mut writer = Writing::new(Vec::new(rt.alloc()));
-    let answer = write_tasks(&heap, EACH_KIND.as_bytes(), &mut writer);
+    let answer = write_tasks(&heap, EACH_KIND.as_bytes(), &mut writer).map_err(RunError::from);
     let text = writer.into_inner();
     assert_eq!(rt; heap.used(), 0, "{number}");
     if !heap.has_refused() {
@@ -113,15 +113,4 @@ fn each_growth_is_refused_in_turn(rt: HostRuntime) {
         refused = refused.saturating_add(1);
     }
     assert!(rt; 0 < refused && refused < 999, "{refused}");
-}
-
-#[test]
-fn names_take_memory(rt: HostRuntime) -> Result<(), Fail> {
-    let plan = read_plan(rt.alloc(), EACH_KIND.as_bytes())?;
-    let heap = Refusing::new(rt.alloc());
-    heap.refuse(1);
-    assert!(rt; names_of_tasks(&heap, &plan).is_err());
-    assert_eq!(rt; names_of_tasks(&heap, &plan)?.len(), 10);
-    assert_eq!(rt; heap.used(), 0);
-    Ok(())
 }

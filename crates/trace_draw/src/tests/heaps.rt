@@ -1,6 +1,5 @@
 //! Pictures with little memory, over heaps of fixed size.
 use super::*;
-use crate::LinesError;
 use linked_list_allocator::LocalHeap;
 
 /// Whether a picture over a heap is refused memory; all of it is given back.
@@ -44,22 +43,5 @@ fn crowds_are_told_without_memory(rt: HostRuntime) -> Result<(), Fail> {
     let heap = LocalHeap::new(rt.alloc(), 64)?;
     let answer = picture(&heap, &lines, 2, window(0, 30)?, 6).err();
     assert_eq!(rt; answer, Some(PictureError::Crowded { marks: 7 }));
-    Ok(())
-}
-
-#[test]
-fn lines_without_memory_are_none(rt: HostRuntime) -> Result<(), Fail> {
-    let heap = LocalHeap::new(rt.alloc(), 64)?;
-    let answer = lines_of(&heap, TRACE.as_bytes()).map(|lines| lines.len());
-    assert_eq!(rt; answer, Err(LinesError::Memory));
-    Ok(())
-}
-
-#[test]
-fn lines_before_one_that_is_none_are_given_back(rt: HostRuntime) -> Result<(), Fail> {
-    let heap = LocalHeap::new(rt.alloc(), 1 << 12)?;
-    let answer = lines_of(&heap, b"5 clock\n6 clock\n6 nothing\n").map(|lines| lines.len());
-    assert_eq!(rt; answer, Err(LinesError::NotATrace { line: 3 }));
-    assert_eq!(rt; heap.used(), 0);
     Ok(())
 }

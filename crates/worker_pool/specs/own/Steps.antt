@@ -12,14 +12,14 @@ use Rattle.executor_core.specs.declared.types.Line.{Line}
 use Rattle.executor_core.specs.declared.types.Event.{Event}
 use Rattle.executor_core.specs.declared.types.Need.{Need}
 use Rattle.executor_core.specs.declared.types.Need.TheVariants as n
-use Rattle.executor_core.specs.Histories.{HistoryEntry, IsHistoryOf, happenings, is_call, is_end, was_cancelled, made_after, MayFrom}
+use Rattle.executor_core.specs.Histories.{HistoryEntry, IsHistoryOf, happenings, is_call, is_end, was_cancelled, made_after, MayFrom, is_end as stands_in}
 use Rattle.executor_core.specs.Answers.{moment_after}
 use Rattle.executor_core.specs.Flows.{lines_of, part_of}
 use Rattle.executor_core.specs.State.{State, after, reply_of}
 use Rattle.executor_core.specs.CoreView.{CoreView, workers_of, state_of, room_of, IsCounted}
 use Rattle.executor_core.specs.Needs.{need_of}
 use Rattle.executor_laws.specs.TaskWords.{word_after}
-use Rattle.worker_pool.specs.Books.{history_for, stands_in, was_outside, FitsWord}
+use Rattle.worker_pool.specs.Books.{history_for, was_outside, FitsWord}
 use Rattle.worker_pool.specs.Applies.{calls_in, SaysYes, is_in_way, WereInWay}
 
 -- the seat's entries fit the words after a history, and who is cancelled there was cancelled by the seat or from outside

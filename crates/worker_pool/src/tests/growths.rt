@@ -7,11 +7,13 @@ ghost use Rattle.queue_code.specs.Calls.{task_count};
 ghost use Rattle.queue_code.specs.Codes.{calls_of};
 ghost use Rattle.task_word.specs.Views.{new_core};
 
-use super::{Handles, Step, Told, check_lines, code_with_halt, happenings_of, step_of};
+use super::{Handles, Row, Step, Told, check_lines, happenings_of, read_script, step_of};
 use crate::{Book, Named, PoolError, Shared};
 use executor_core::{Happening, Line};
 use heap_allocator::HeapAllocator;
-use queue_code::{Code, Instr};
+use plan_compile::compile;
+use plan_read::{Plan, read_plan};
+use queue_code::Code;
 use refusing_allocator::Refusing;
 use std::alloc::{AllocGlobal, Global};
 use std::marker::Brand;
@@ -19,25 +21,25 @@ use std::process::Abort;
 use std::test::Fail;
 use task_word::{CoreSeat, TaskState};
 
-/// A plan, what is done with a book for it, what is told with ample memory, and the lines then.
-#[derive(Clone, Copy)]
-pub struct Row<'a> {
-    pub instrs: &'a [Instr],
-    pub steps: &'a [Step],
-    pub told: &'a [Told],
-    pub text: &'a str,
-}
-
 /// A row has so many tasks at most.
 const MOST_TASKS: u32 = 2;
 
 /// A call that was refused a growth.
 #[derive(Clone, Copy, Debug, PartialEq, Eq)]
-pub enum Refused {
+enum Refused {
     Shared,
     Book,
     /// A step, by its place in the row.
     Step(usize),
+}
+
+/// A row that was read: its name, its plan, its steps with what is told with ample memory, and the text of the lines then.
+#[derive(Drop)]
+struct Script<'a> {
+    name: &'a str,
+    plan: Plan<Global>,
+    steps: Vec<(Step, &'a str)>,
+    trace: &'a str,
 }
 
 /// Plays a row with its first growth refused, then with its second and so on, until no growth of that number is asked for.
@@ -46,20 +48,32 @@ pub enum Refused {
 pub fn refuse_each(
     rt: &(impl AllocGlobal + Abort),
     row: &Row<'_>,
-    asking: &[Refused],
+    asking: &str,
 ) -> Result<(), Fail> {
-    let mut calls = Vec::new(rt.alloc());
+    let script = Script {
+        name: row.name,
+        plan: read_plan(rt.alloc(), row.plan.as_bytes())?,
+        steps: read_script(rt.alloc(), row.script)?,
+        trace: row.trace,
+    };
+    let mut last = None;
+    let mut calls = String::new(rt.alloc());
     for number in 1..1_000u64 {
         let heap = Refusing::new(rt.alloc());
-        let refused = refused_call(rt, &heap, row, number)?;
-        assert_eq!(rt; heap.used(), 0, "{number}");
-        assert_eq!(rt; heap.has_refused(), refused.is_some(), "{number}");
+        let refused = refused_call(rt, &heap, &script, number)?;
+        assert!(rt; heap.used() == 0, "{}: {number}", row.name);
+        assert!(rt;
+            heap.has_refused() == refused.is_some(),
+            "{}: {number}",
+            row.name
+        );
         let Some(call) = refused else {
-            assert_eq!(rt; calls.as_slice(), asking);
+            assert!(rt; calls.as_str() == asking, "{}: {calls}", row.name);
             return Ok(());
         };
-        if calls.last() != Some(&call) {
-            calls.push(call)?;
+        if last != Some(call) {
+            write!(calls, "{call:?} ")?;
+            last = Some(call);
         }
     }
     Err("a growth was refused each time".into())
@@ -69,16 +83,16 @@ pub fn refuse_each(
 fn refused_call(
     rt: &(impl AllocGlobal + Abort),
     heap: &Refusing<Global>,
-    row: &Row<'_>,
+    script: &Script<'_>,
     number: u64,
 ) -> Result<Option<Refused>, Fail> {
-    let code = code_with_halt(heap, row.instrs)?;
+    let code = compile(heap, &script.plan)?;
     heap.refuse(number);
-    let refused = play_over(rt, heap, code, row)?;
+    let refused = play_over(rt, heap, code, script)?;
     if matches!(refused, Some(Refused::Shared | Refused::Book)) {
         // What was handed in is dropped, so all is made anew.
-        let code = code_with_halt(heap, row.instrs)?;
-        assert_eq!(rt; play_over(rt, heap, code, row)?, None);
+        let code = compile(heap, &script.plan)?;
+        assert!(rt; play_over(rt, heap, code, script)?.is_none());
     }
     Ok(refused)
 }
@@ -88,12 +102,12 @@ fn play_over<'h>(
     rt: &(impl AllocGlobal + Abort),
     heap: &'h Refusing<Global>,
     code: Code<&'h Refusing<Global>>,
-    row: &Row<'_>,
+    script: &Script<'_>,
 ) -> Result<Option<Refused>, Fail> {
     match Shared::new(heap, code.tasks()) {
-        Ok((shared, seat)) => play_book::<Brand, _>(rt, heap, &shared, seat, code, row),
+        Ok((shared, seat)) => play_book::<Brand, _>(rt, heap, &shared, seat, code, script),
         Err(error) => {
-            assert_eq!(rt; error, PoolError::Memory);
+            assert!(rt; error == PoolError::Memory);
             Ok(Some(Refused::Shared))
         }
     }
@@ -106,7 +120,7 @@ fn play_book<N: Named, A: HeapAllocator>(
     shared: &Shared<A>,
     seat: CoreSeat<A>,
     code: Code<A>,
-    row: &Row<'_>,
+    script: &Script<'_>,
 ) -> Result<Option<Refused>, Fail>
     requires shared { (shared.now.table ≡ N.table) × (shared.now.cells ≡ N.cells) }
     requires seat { (seat.table ≡ shared.now.table) × (seat.view ≡ new_core shared.now.tasks) }
@@ -114,9 +128,9 @@ fn play_book<N: Named, A: HeapAllocator>(
     requires named { (calls_of code ≡ N.calls) × (1 ≡ N.workers) }
 {
     match Book::<N, A>::new(alloc, shared, seat, code, 1, 100) {
-        Ok(mut book) => play_steps(rt, &mut book, shared, row),
+        Ok(mut book) => play_steps(rt, &mut book, shared, script),
         Err(error) => {
-            assert_eq!(rt; error, PoolError::Memory);
+            assert!(rt; error == PoolError::Memory);
             Ok(Some(Refused::Book))
         }
     }
@@ -127,19 +141,18 @@ fn play_steps<N: Named, A: HeapAllocator>(
     rt: &(impl AllocGlobal + Abort),
     book: &mut Book<N, A>,
     shared: &Shared<A>,
-    row: &Row<'_>,
+    script: &Script<'_>,
 ) -> Result<Option<Refused>, Fail>
     requires { (shared.now.table ≡ N.table) × (shared.now.cells ≡ N.cells) }
 {
     let mut handles = Vec::new(rt.alloc());
     let mut refused = None;
-    assert_eq!(rt; row.steps.len(), row.told.len());
-    for (place, (step, told)) in row.steps.iter().zip(row.told).enumerate() {
-        if is_done_again(rt, book, shared, &mut handles, *step, *told)? {
+    for (place, (step, told)) in script.steps.iter().enumerate() {
+        if is_done_again(rt, book, shared, &mut handles, *step, told)? {
             refused = Some(Refused::Step(place));
         }
     }
-    check_lines(rt, book.lines(), row.text)?;
+    check_lines(rt, script.name, book.lines(), script.trace)?;
     Ok(refused)
 }
 
@@ -183,18 +196,19 @@ fn is_done_again<'s, N: Named, A: HeapAllocator>(
     shared: &'s Shared<A>,
     handles: &mut Handles<'s, N, A>,
     step: Step,
-    told: Told,
+    wanted: &str,
 ) -> Result<bool, Fail>
     requires { (shared.now.table ≡ N.table) × (shared.now.cells ≡ N.cells) }
 {
     let before = shown_by(rt.alloc(), book, handles)?;
-    let first = step_of(book, shared, handles, step)?;
-    if first != Told::Refused(PoolError::Memory) {
-        assert_eq!(rt; first, told);
-        return Ok(false);
+    let mut told = step_of(book, shared, handles, step)?;
+    let is_refused = matches!(told, Told::Refused(PoolError::Memory));
+    if is_refused {
+        let after = shown_by(rt.alloc(), book, handles)?;
+        assert!(rt; after == before, "a refused call has changed what is shown");
+        told = step_of(book, shared, handles, step)?;
     }
-    let after = shown_by(rt.alloc(), book, handles)?;
-    assert!(rt; after == before, "a refused call has changed what is shown");
-    assert_eq!(rt; step_of(book, shared, handles, step)?, told);
-    Ok(true)
+    let told = format!(in rt.alloc(); "{told:?}")?;
+    assert!(rt; told.as_str() == wanted, "{wanted}: {told}");
+    Ok(is_refused)
 }

@@ -1,313 +1,284 @@
 //! Several handles, cancels in the midst of a sweep, cancels that no move meets, and a handle that outlives the end of a task.
-use super::{Step, Told, check, lines, play};
-use crate::{PoolError, Work};
-use executor_core::{Event, Happening};
-use queue_code::Instr;
-use sched_time::{Ending, Timing, Unit, Which, span};
-use std::alloc::{AllocGlobal, Global};
-use std::process::Abort;
+use super::{Row, plays};
 use std::test::Fail;
-use task_word::{CancelAnswer, TaskState};
 
-/// A submission at moment 0 of a task with one run.
-fn once(delay: u64) -> Instr {
-    Instr::Submit(0, Timing::Once, delay)
-}
+/// The plan of three tasks that a shutdown ends.
+const SWEPT: &str =
+    "version = 1\n[[block]]\ncall = [{ op = 'policy', which = 'execute', value = false }, { op = 'schedule', name = 'a', delay = 9 }, { op = 'schedule', name = 'b', delay = 9 }, { op = 'schedule', name = 'c', delay = 9 }, { op = 'shutdown', at = 5 }]";
 
-#[test]
-fn the_seats_are_given_again(rt: HostRuntime) -> Result<(), Fail> {
-    let alloc = rt.alloc();
-    let mut steps = Vec::from_elem(alloc, Step::Admit, 64)?;
-    steps.push(Step::Retire(5))?;
-    steps.push(Step::Admit)?;
-    steps.push(Step::Admit)?;
-    let mut told = Vec::from_elem(alloc, Told::Admitted, 63)?;
-    told.push(Told::Refused(PoolError::Seats))?;
-    told.push(Told::Retired)?;
-    told.push(Told::Admitted)?;
-    told.push(Told::Refused(PoolError::Seats))?;
-    let played = play(alloc, &[once(0)], 1, 1_000_000, &steps)?;
-    check(&rt, &played, &told, "")
-}
+pub const A_SWEEP_MEETS_THE_FIRST_TASK_CANCELLED: Row<'static> = Row {
+    name: "a sweep meets the first task cancelled",
+    plan: SWEPT,
+    limit: 1_000_000,
+    script: "clock 0 | Lines(5, None)
+admit | Admitted
+handle 0 cancel 0 | Cancel(Yes)
+clock 5 | Lines(5, None)
+retire 0 | Retired
+",
+    trace: "0 policy execute false
+0 submit 0 schedule due 9
+0 submit 1 schedule due 9
+0 submit 2 schedule due 9
+0 clock
+0 outside 0 yes
+5 shutdown
+5 end 1
+5 end 2
+5 clock
+",
+};
 
-/// A sweep of three tasks, of which a handle cancels some before it.
-fn swept(
-    rt: &(impl Abort + AllocGlobal),
-    cancelled: &[u32],
-    told: &[Told],
-    text: &str,
-) -> Result<(), Fail> {
-    let alloc = rt.alloc();
-    let instrs = [
-        Instr::SetPolicy(0, Which::Execute, false),
-        once(9),
-        once(9),
-        once(9),
-        Instr::Shutdown(5),
-    ];
-    let mut steps = Vec::new(alloc);
-    steps.push(Step::Apply(Event::Clock(0)))?;
-    steps.push(Step::Admit)?;
-    for task in cancelled {
-        steps.push(Step::Cancel(0, *task))?;
-    }
-    steps.push(Step::Apply(Event::Clock(5)))?;
-    steps.push(Step::Retire(0))?;
-    let played = play(alloc, &instrs, 1, 1_000_000, &steps)?;
-    check(rt, &played, told, text)
-}
+pub const A_SWEEP_MEETS_THE_MIDDLE_TASK_CANCELLED: Row<'static> = Row {
+    name: "a sweep meets the middle task cancelled",
+    plan: SWEPT,
+    limit: 1_000_000,
+    script: "clock 0 | Lines(5, None)
+admit | Admitted
+handle 0 cancel 1 | Cancel(Yes)
+clock 5 | Lines(5, None)
+retire 0 | Retired
+",
+    trace: "0 policy execute false
+0 submit 0 schedule due 9
+0 submit 1 schedule due 9
+0 submit 2 schedule due 9
+0 clock
+0 outside 1 yes
+5 shutdown
+5 end 0
+5 end 2
+5 clock
+",
+};
 
-#[test]
-fn a_sweep_meets_the_first_task_cancelled(rt: HostRuntime) -> Result<(), Fail> {
-    swept(
-        &rt,
-        &[0],
-        &[
-            lines(5),
-            Told::Admitted,
-            Told::Cancel(CancelAnswer::Yes),
-            lines(5),
-            Told::Retired,
-        ],
-        "0 policy execute false\n0 submit 0 schedule due 9\n0 submit 1 schedule due 9\n0 submit 2 schedule due 9\n0 clock\n\
-         0 outside 0 yes\n5 shutdown\n5 end 1\n5 end 2\n5 clock\n",
-    )
-}
-
-#[test]
-fn a_sweep_meets_the_middle_task_cancelled(rt: HostRuntime) -> Result<(), Fail> {
-    swept(
-        &rt,
-        &[1],
-        &[
-            lines(5),
-            Told::Admitted,
-            Told::Cancel(CancelAnswer::Yes),
-            lines(5),
-            Told::Retired,
-        ],
-        "0 policy execute false\n0 submit 0 schedule due 9\n0 submit 1 schedule due 9\n0 submit 2 schedule due 9\n0 clock\n\
-         0 outside 1 yes\n5 shutdown\n5 end 0\n5 end 2\n5 clock\n",
-    )
-}
-
-#[test]
-fn a_sweep_meets_the_last_tasks_cancelled(rt: HostRuntime) -> Result<(), Fail> {
-    swept(
-        &rt,
-        &[2, 1],
-        &[
-            lines(5),
-            Told::Admitted,
-            Told::Cancel(CancelAnswer::Yes),
-            Told::Cancel(CancelAnswer::Yes),
-            lines(5),
-            Told::Retired,
-        ],
-        "0 policy execute false\n0 submit 0 schedule due 9\n0 submit 1 schedule due 9\n0 submit 2 schedule due 9\n0 clock\n\
-         0 outside 1 yes\n0 outside 2 yes\n5 shutdown\n5 end 0\n5 clock\n",
-    )
-}
+pub const A_SWEEP_MEETS_THE_LAST_TASKS_CANCELLED: Row<'static> = Row {
+    name: "a sweep meets the last tasks cancelled",
+    plan: SWEPT,
+    limit: 1_000_000,
+    script: "clock 0 | Lines(5, None)
+admit | Admitted
+handle 0 cancel 2 | Cancel(Yes)
+handle 0 cancel 1 | Cancel(Yes)
+clock 5 | Lines(5, None)
+retire 0 | Retired
+",
+    trace: "0 policy execute false
+0 submit 0 schedule due 9
+0 submit 1 schedule due 9
+0 submit 2 schedule due 9
+0 clock
+0 outside 1 yes
+0 outside 2 yes
+5 shutdown
+5 end 0
+5 clock
+",
+};
 
 /// A periodic task runs at a shutdown at once, before which a handle cancelled one of the tasks that wait. After it the handle
 /// cancels the one that runs, and no other.
+pub const A_SHUTDOWN_AT_ONCE_MEETS_A_CANCEL: Row<'static> = Row {
+    name: "a shutdown at once meets a cancel",
+    plan: "version = 1\n[[block]]\ncall = [{ op = 'rate', name = 'a', first = 0, period = 5 }, { op = 'schedule', name = 'b', delay = 0 }, { op = 'schedule', name = 'c', delay = 9 }, { op = 'schedule', name = 'd', delay = 9 }, { op = 'shutdown_now', at = 5 }]",
+    limit: 1_000_000,
+    script: "clock 0 | Lines(5, None)
+start 0 | Lines(1, Some(Work { task: 0, run: 0 }))
+admit | Admitted
+handle 0 cancel 2 | Cancel(Yes)
+clock 5 | Lines(5, None)
+handle 0 cancel 1 | Cancel(No)
+handle 0 cancel 3 | Cancel(No)
+handle 0 cancel 0 | Cancel(Yes)
+finish 0 ok 7 | Lines(2, None)
+retire 0 | Retired
+",
+    trace: "0 submit 0 rate due 0
+0 submit 1 schedule due 0
+0 submit 2 schedule due 9
+0 submit 3 schedule due 9
+0 clock
+0 start 0 task 0 run 0 due 0
+0 outside 2 yes
+5 shutdown now
+5 end 1
+5 end 3
+5 clock
+5 outside 0 yes
+5 finish 0 task 0 run 0 dropped
+",
+};
+
+pub const HANDLES_COME_BACK_IN_ORDER: Row<'static> = Row {
+    name: "handles come back in order",
+    plan: "version = 1\n[[block]]\ncall = [{ op = 'schedule', name = 'a', delay = 0 }, { op = 'schedule', name = 'b', delay = 0 }]",
+    limit: 1_000_000,
+    script: "clock 0 | Lines(3, None)
+admit | Admitted
+admit | Admitted
+handle 0 cancel 0 | Cancel(Yes)
+handle 1 cancel 0 | Cancel(No)
+handle 1 cancel 1 | Cancel(Yes)
+retire 0 | Retired
+retire 1 | Retired
+note | Noted(0)
+",
+    trace: "0 submit 0 schedule due 0
+0 submit 1 schedule due 0
+0 clock
+0 outside 0 yes
+0 outside 1 yes
+",
+};
+
+pub const HANDLES_COME_BACK_IN_REVERSE: Row<'static> = Row {
+    name: "handles come back in reverse",
+    script: "clock 0 | Lines(3, None)
+admit | Admitted
+admit | Admitted
+handle 0 cancel 0 | Cancel(Yes)
+handle 1 cancel 0 | Cancel(No)
+handle 1 cancel 1 | Cancel(Yes)
+retire 1 | Retired
+retire 0 | Retired
+note | Noted(0)
+",
+    ..HANDLES_COME_BACK_IN_ORDER
+};
+
+/// A start, a cancel, a finish and a sweep move words of other tasks, and leave the cancel to the look at each word.
+pub const WHAT_NO_MOVE_MEETS_IS_NOT_NOTED: Row<'static> = Row {
+    name: "what no move meets is not noted",
+    plan: "version = 1\n[[block]]\ncall = [{ op = 'schedule', name = 'a', delay = 0 }, { op = 'schedule', name = 'b', delay = 9 }, { op = 'rate', name = 'c', first = 9, period = 5 }, { op = 'shutdown', at = 5 }]",
+    limit: 1_000_000,
+    script: "clock 0 | Lines(4, None)
+admit | Admitted
+handle 0 cancel 1 | Cancel(Yes)
+start 0 | Lines(1, Some(Work { task: 0, run: 0 }))
+cancel 0 | Lines(1, None)
+finish 0 ok 7 | Lines(1, None)
+clock 5 | Lines(3, None)
+note | Noted(1)
+",
+    trace: "0 submit 0 schedule due 0
+0 submit 1 schedule due 9
+0 submit 2 rate due 9
+0 clock
+0 start 0 task 0 run 0 due 0
+0 outside 0 yes
+0 finish 0 task 0 run 0 dropped
+5 shutdown
+5 end 2
+5 clock
+5 outside 1 yes
+",
+};
+
+pub const A_HANDLE_OUTLIVES_THE_END_OF_A_TASK: Row<'static> = Row {
+    name: "a handle outlives the end of a task",
+    plan: "version = 1\n[[block]]\ncall = [{ op = 'schedule', name = 'a', delay = 0 }]",
+    limit: 1_000_000,
+    script: "admit | Admitted
+handle 0 state 0 | State(Unsubmitted)
+handle 0 cancel 0 | Cancel(Absent)
+clock 0 | Lines(2, None)
+handle 0 state 0 | State(Waiting)
+start 0 | Lines(1, Some(Work { task: 0, run: 0 }))
+handle 0 state 0 | State(Running)
+finish 0 ok 7 | Lines(1, None)
+handle 0 state 0 | State(Done)
+handle 0 cancel 0 | Cancel(No)
+retire 0 | Retired
+",
+    trace: "0 submit 0 schedule due 0
+0 clock
+0 start 0 task 0 run 0 due 0
+0 finish 0 task 0 run 0 done 7
+",
+};
+
 #[test]
-fn a_shutdown_at_once_meets_a_cancel(rt: HostRuntime) -> Result<(), Fail> {
-    let instrs = [
-        Instr::Submit(0, Timing::Rate(span(5, Unit::Ns)?), 0),
-        once(0),
-        once(9),
-        once(9),
-        Instr::ShutdownNow(5),
-    ];
-    let steps = [
-        Step::Apply(Event::Clock(0)),
-        Step::Apply(Event::Start(0)),
-        Step::Admit,
-        Step::Cancel(0, 2),
-        Step::Apply(Event::Clock(5)),
-        Step::Cancel(0, 1),
-        Step::Cancel(0, 3),
-        Step::Cancel(0, 0),
-        Step::Apply(Event::Finish(0, Ending::Value(7))),
-        Step::Retire(0),
-    ];
-    let told = [
-        lines(5),
-        Told::Lines(1, Some(Work { task: 0, run: 0 })),
-        Told::Admitted,
-        Told::Cancel(CancelAnswer::Yes),
-        lines(5),
-        Told::Cancel(CancelAnswer::No),
-        Told::Cancel(CancelAnswer::No),
-        Told::Cancel(CancelAnswer::Yes),
-        lines(2),
-        Told::Retired,
-    ];
-    let played = play(rt.alloc(), &instrs, 1, 1_000_000, &steps)?;
-    check(&rt, &played, &told, AROUND_A_STOP)
+fn the_seats_are_given_again(rt: HostRuntime) -> Result<(), Fail> {
+    let admitted = "admit | Admitted\n".repeat(rt.alloc(), 63)?;
+    let behind =
+        "admit | Refused(Seats)\nretire 5 | Retired\nadmit | Admitted\nadmit | Refused(Seats)\n";
+    let script = format!(in rt.alloc(); "{admitted}{behind}")?;
+    let row = Row {
+        name: "the seats are given again",
+        script: script.as_str(),
+        trace: "",
+        ..A_HANDLE_OUTLIVES_THE_END_OF_A_TASK
+    };
+    plays(&rt, &row)
 }
 
-/// The lines of a book around a shutdown at once, of whose four tasks a handle cancelled two.
-const AROUND_A_STOP: &str =
-    "0 submit 0 rate due 0\n0 submit 1 schedule due 0\n0 submit 2 schedule due 9\n\
-    0 submit 3 schedule due 9\n0 clock\n0 start 0 task 0 run 0 due 0\n0 outside 2 yes\n\
-    5 shutdown now\n5 end 1\n5 end 3\n5 clock\n5 outside 0 yes\n5 finish 0 task 0 run 0 dropped\n";
+/// The plan of nine tasks that a shutdown ends.
+const NINE: &str = r#"version = 1
+[[block]]
+call = [{ op = "policy", which = "execute", value = false }]
+[[block]]
+times = 9
+every = 0
+call = [{ op = "schedule", name = "a", delay = 9 }]
+[[block]]
+at = 5
+call = [{ op = "shutdown" }]
+"#;
 
-/// Two handles cancel a task each, and come back in this order.
-fn retired_in(
-    rt: &(impl Abort + AllocGlobal),
-    first: usize,
-    second: usize,
-    text: &str,
-) -> Result<(), Fail> {
-    let steps = [
-        Step::Apply(Event::Clock(0)),
-        Step::Admit,
-        Step::Admit,
-        Step::Cancel(0, 0),
-        Step::Cancel(1, 0),
-        Step::Cancel(1, 1),
-        Step::Retire(first),
-        Step::Retire(second),
-        Step::NoteCancels,
-    ];
-    let played = play(rt.alloc(), &[once(0), once(0)], 1, 1_000_000, &steps)?;
-    check(
-        rt,
-        &played,
-        &[
-            lines(3),
-            Told::Admitted,
-            Told::Admitted,
-            Told::Cancel(CancelAnswer::Yes),
-            Told::Cancel(CancelAnswer::No),
-            Told::Cancel(CancelAnswer::Yes),
-            Told::Retired,
-            Told::Retired,
-            Told::Noted(0),
-        ],
-        text,
-    )
-}
+/// A handle cancels nine tasks, in another order.
+const NINE_CANCELS: &str = "clock 0 | Lines(11, None)
+admit | Admitted
+handle 0 cancel 7 | Cancel(Yes)
+handle 0 cancel 2 | Cancel(Yes)
+handle 0 cancel 8 | Cancel(Yes)
+handle 0 cancel 0 | Cancel(Yes)
+handle 0 cancel 5 | Cancel(Yes)
+handle 0 cancel 1 | Cancel(Yes)
+handle 0 cancel 6 | Cancel(Yes)
+handle 0 cancel 3 | Cancel(Yes)
+handle 0 cancel 4 | Cancel(Yes)
+";
 
-#[test]
-fn handles_come_back_in_both_orders(rt: HostRuntime) -> Result<(), Fail> {
-    let text =
-        "0 submit 0 schedule due 0\n0 submit 1 schedule due 0\n0 clock\n0 outside 0 yes\n0 outside 1 yes\n";
-    retired_in(&rt, 0, 1, text)?;
-    retired_in(&rt, 1, 0, text)
-}
-
-/// The tasks of the cancels that are noted by a last step, where a handle cancelled nine tasks before it.
-fn noted_by(alloc: Global, last: Step) -> Result<Vec<u32>, Fail> {
-    let mut instrs = Vec::new(alloc);
-    instrs.push(Instr::SetPolicy(0, Which::Execute, false))?;
-    for _task in 0..9u8 {
-        instrs.push(once(9))?;
-    }
-    instrs.push(Instr::Shutdown(5))?;
-    let mut steps = Vec::new(alloc);
-    steps.push(Step::Apply(Event::Clock(0)))?;
-    steps.push(Step::Admit)?;
-    for task in [7, 2, 8, 0, 5, 1, 6, 3, 4] {
-        steps.push(Step::Cancel(0, task))?;
-    }
-    steps.push(last)?;
-    let played = play(alloc, &instrs, 1, 1_000_000, &steps)?;
-    let mut tasks = Vec::new(alloc);
-    for happening in &played.happened {
-        if let Happening::Cancel(task) = happening {
-            tasks.push(*task)?;
-        }
-    }
-    Ok(tasks)
-}
+/// The lines of what is submitted, and of the cancels.
+const NINE_LINES: &str = "0 policy execute false
+0 submit 0 schedule due 9
+0 submit 1 schedule due 9
+0 submit 2 schedule due 9
+0 submit 3 schedule due 9
+0 submit 4 schedule due 9
+0 submit 5 schedule due 9
+0 submit 6 schedule due 9
+0 submit 7 schedule due 9
+0 submit 8 schedule due 9
+0 clock
+0 outside 0 yes
+0 outside 1 yes
+0 outside 2 yes
+0 outside 3 yes
+0 outside 4 yes
+0 outside 5 yes
+0 outside 6 yes
+0 outside 7 yes
+0 outside 8 yes
+";
 
 #[test]
 fn cancels_are_noted_in_ascending_number(rt: HostRuntime) -> Result<(), Fail> {
-    for last in [
-        Step::NoteCancels,
-        Step::Retire(0),
-        Step::Apply(Event::Clock(5)),
+    for (last, behind) in [
+        ("note | Noted(9)", ""),
+        ("retire 0 | Retired", ""),
+        ("clock 5 | Lines(11, None)", "5 shutdown\n5 clock\n"),
     ] {
-        let tasks = noted_by(rt.alloc(), last)?;
-        assert_eq!(rt; tasks.as_slice(), [0u32, 1, 2, 3, 4, 5, 6, 7, 8].as_slice());
+        let script = format!(in rt.alloc(); "{NINE_CANCELS}{last}\n")?;
+        let trace = format!(in rt.alloc(); "{NINE_LINES}{behind}")?;
+        let row = Row {
+            name: last,
+            plan: NINE,
+            limit: 1_000_000,
+            script: script.as_str(),
+            trace: trace.as_str(),
+        };
+        plays(&rt, &row)?;
     }
     Ok(())
-}
-
-// A start, a cancel, a finish and a sweep move words of other tasks, and leave the cancel to the look at each word.
-#[test]
-fn what_no_move_meets_is_not_noted(rt: HostRuntime) -> Result<(), Fail> {
-    let instrs = [
-        once(0),
-        once(9),
-        Instr::Submit(0, Timing::Rate(span(5, Unit::Ns)?), 9),
-        Instr::Shutdown(5),
-    ];
-    let steps = [
-        Step::Apply(Event::Clock(0)),
-        Step::Admit,
-        Step::Cancel(0, 1),
-        Step::Apply(Event::Start(0)),
-        Step::Apply(Event::Cancel(0)),
-        Step::Apply(Event::Finish(0, Ending::Value(7))),
-        Step::Apply(Event::Clock(5)),
-        Step::NoteCancels,
-    ];
-    let played = play(rt.alloc(), &instrs, 1, 1_000_000, &steps)?;
-    check(
-        &rt,
-        &played,
-        &[
-            lines(4),
-            Told::Admitted,
-            Told::Cancel(CancelAnswer::Yes),
-            Told::Lines(1, Some(Work { task: 0, run: 0 })),
-            lines(1),
-            lines(1),
-            lines(3),
-            Told::Noted(1),
-        ],
-        "0 submit 0 schedule due 0\n0 submit 1 schedule due 9\n0 submit 2 rate due 9\n0 clock\n\
-         0 start 0 task 0 run 0 due 0\n0 outside 0 yes\n0 finish 0 task 0 run 0 dropped\n\
-         5 shutdown\n5 end 2\n5 clock\n5 outside 1 yes\n",
-    )
-}
-
-#[test]
-fn a_handle_outlives_the_end_of_a_task(rt: HostRuntime) -> Result<(), Fail> {
-    let steps = [
-        Step::Admit,
-        Step::State(0, 0),
-        Step::Cancel(0, 0),
-        Step::Apply(Event::Clock(0)),
-        Step::State(0, 0),
-        Step::Apply(Event::Start(0)),
-        Step::State(0, 0),
-        Step::Apply(Event::Finish(0, Ending::Value(7))),
-        Step::State(0, 0),
-        Step::Cancel(0, 0),
-        Step::Retire(0),
-    ];
-    let played = play(rt.alloc(), &[once(0)], 1, 1_000_000, &steps)?;
-    check(
-        &rt,
-        &played,
-        &[
-            Told::Admitted,
-            Told::State(TaskState::Unsubmitted),
-            Told::Cancel(CancelAnswer::Absent),
-            lines(2),
-            Told::State(TaskState::Waiting),
-            Told::Lines(1, Some(Work { task: 0, run: 0 })),
-            Told::State(TaskState::Running),
-            lines(1),
-            Told::State(TaskState::Done),
-            Told::Cancel(CancelAnswer::No),
-            Told::Retired,
-        ],
-        "0 submit 0 schedule due 0\n0 clock\n0 start 0 task 0 run 0 due 0\n0 finish 0 task 0 run 0 done 7\n",
-    )
 }

@@ -2,8 +2,8 @@
 mod beside;
 mod growths;
 mod long;
+mod outcomes;
 mod race;
-mod rows;
 mod seats;
 mod stress;
 mod usage;
@@ -13,13 +13,13 @@ ghost use Rattle.queue_code.specs.Calls.{task_count};
 ghost use Rattle.queue_code.specs.Codes.{calls_of};
 ghost use Rattle.task_word.specs.Views.{new_core};
 
-use super::happenings_of;
 use crate::{Applied, Book, Handle, Job, Named, Pool, PoolError, Shared};
-use executor_core::{Answer, Happening, Line, Message, Outcome};
-use plan_read::Plan;
-use queue_code::{Code, Instr};
+use executor_core::{Answer, Line, Message, Outcome};
+use plan_compile::compile;
+use plan_read::{Plan, read_plan};
+use queue_code::Code;
 use result_cell::Verdict;
-use sched_time::{Ending, Timing};
+use sched_time::Ending;
 use std::alloc::{AllocError, AllocGlobal, Global};
 use std::marker::Brand;
 use std::process::Abort;
@@ -89,26 +89,66 @@ fn saw(count: &AtomicU64, wanted: u64) -> bool {
 }
 
 /// A call of a pool.
-#[derive(Clone, Copy)]
-enum Call<'m> {
-    Run(&'m [u64]),
+#[derive(Drop)]
+enum Call {
+    Run(Vec<u64>),
     Advance(u64),
 }
 
 /// What it is answered.
-#[derive(Clone, Copy, Debug, PartialEq, Eq)]
+#[derive(Clone, Copy, Debug)]
 enum Said {
     Ran(Result<(), PoolError>),
     Advanced(Result<Applied, PoolError>),
 }
 
-/// What calls are answered, the verdicts on the tasks as a handle and as handle and book read them, and what happened.
+/// The moment that a word spells.
+fn moment_of(word: &str) -> Result<u64, Fail> {
+    Ok(word.parse::<u64>()?)
+}
+
+/// The calls of a script, a line for each: `run` and moments, or `advance` and a moment. What they are answered may stand behind ` | `.
+fn read_calls(alloc: Global, script: &str) -> Result<Vec<Call>, Fail> {
+    let mut calls = Vec::new(alloc);
+    for line in script.lines() {
+        let (call, _) = line.split_once(" | ").unwrap_or((line, ""));
+        let mut words = call.split(' ');
+        let verb = words.next().unwrap_or("");
+        let mut moments = Vec::new(alloc);
+        for word in words {
+            moments.push(moment_of(word)?)?;
+        }
+        calls.push(if verb == "run" {
+            Call::Run(moments)
+        } else {
+            Call::Advance(moments.pop().ok_or("no moment")?)
+        })?;
+    }
+    Ok(calls)
+}
+
+/// Checks what the calls of a script are answered.
+fn is_said(
+    rt: &(impl Abort + AllocGlobal),
+    name: &str,
+    said: &[Said],
+    script: &str,
+) -> Result<(), Fail> {
+    assert!(rt; said.len() == script.lines().count(), "{name}");
+    for (said, line) in said.iter().zip(script.lines()) {
+        let (_, wanted) = line.split_once(" | ").ok_or("nothing said")?;
+        let said = format!(in rt.alloc(); "{said:?}")?;
+        assert!(rt; said.as_str() == wanted, "{name}: {line}: {said}");
+    }
+    Ok(())
+}
+
+/// What calls are answered, the verdicts on the tasks as a handle and as handle and book read them, and the lines.
 #[derive(Drop)]
 struct Played {
     said: Vec<Said>,
     results: Vec<Option<Verdict>>,
     agreed: Vec<Option<Verdict>>,
-    happened: Vec<Happening>,
     lines: Vec<Line>,
 }
 
@@ -148,19 +188,17 @@ fn is_done(line: &Line) -> bool {
     )
 }
 
-/// The code of these instructions and a halt.
-fn code_of(alloc: Global, instrs: &[Instr]) -> Result<Code<Global>, Fail> {
-    let mut list = Vec::with_capacity(alloc, instrs.len() + 1)?;
-    list.extend_from_slice(instrs)?;
-    list.push(Instr::Halt)?;
-    Ok(Code::check(alloc, list)?)
+/// The code of a plan's text.
+fn code_of(alloc: Global, plan: &str) -> Result<Code<Global>, Fail> {
+    let plan = read_plan(alloc, plan.as_bytes())?;
+    Ok(compile(alloc, &plan)?)
 }
 
-/// So many tasks with one run, each submitted at moment 0.
-fn tasks_of(alloc: Global, count: usize, delay: u64) -> Result<Vec<Instr>, AllocError> {
-    let mut instrs = Vec::new(alloc);
-    instrs.resize(count, Instr::Submit(0, Timing::Once, delay))?;
-    Ok(instrs)
+/// The plan of so many tasks with one run, each submitted at moment 0.
+fn tasks_of(alloc: Global, count: u8, delay: u64) -> Result<String, AllocError> {
+    format!(in alloc;
+        "version = 1\n[[block]]\ntimes = {count}\nevery = 0\ncall = [{{ op = \"schedule\", name = \"a\", delay = {delay} }}]\n"
+    )
 }
 
 /// Does one call.
@@ -168,15 +206,15 @@ fn call_of<N: Named + Send + Sync, R: Threads + Wait + Sync, J: Job + Sync>(
     rt: &R,
     pool: &Pool<'_, N, Global>,
     job: &J,
-    call: Call<'_>,
+    call: &Call,
 ) -> Said {
     match call {
         Call::Run(moments) => Said::Ran(pool.run(rt, job, moments)),
-        Call::Advance(moment) => Said::Advanced(pool.advance(rt, moment)),
+        Call::Advance(moment) => Said::Advanced(pool.advance(rt, *moment)),
     }
 }
 
-/// What a book and a handle know of the tasks, and what happened.
+/// What a book and a handle know of the tasks, and the lines.
 fn told_by<N: Named>(
     alloc: Global,
     shared: &Shared<Global>,
@@ -193,14 +231,12 @@ fn told_by<N: Named>(
         results.push(handle.result(task))?;
         agreed.push(book.agrees(shared, handle, task))?;
     }
-    let happened = happenings_of(alloc, book)?;
     let mut lines = Vec::new(alloc);
     lines.extend_from_slice(book.lines())?;
     Ok(Played {
         said,
         results,
         agreed,
-        happened,
         lines,
     })
 }
@@ -215,7 +251,7 @@ fn pool_of<N: Named + Send + Sync, R: Threads + Wait + Sync, J: Job + Sync>(
     workers: u8,
     limit: u32,
     job: &J,
-    calls: &[Call<'_>],
+    calls: &[Call],
 ) -> Result<Played, Fail>
     requires shared { (shared.now.table ≡ N.table) × (shared.now.cells ≡ N.cells) }
     requires seat { (seat.table ≡ shared.now.table) × (seat.view ≡ new_core shared.now.tasks) }
@@ -226,7 +262,7 @@ fn pool_of<N: Named + Send + Sync, R: Threads + Wait + Sync, J: Job + Sync>(
     let pool = Pool::<N, Global>::new(alloc, shared, seat, code, workers, limit)?;
     let mut handle = pool.handle(rt)?;
     let mut said = Vec::new(alloc);
-    for &call in calls {
+    for call in calls {
         said.push(call_of(rt, &pool, job, call))?;
     }
     let mut book = pool.end();
@@ -237,33 +273,34 @@ fn pool_of<N: Named + Send + Sync, R: Threads + Wait + Sync, J: Job + Sync>(
     }
 }
 
-/// Does the calls with a new pool for these instructions.
+/// Does the calls with a new pool for a code.
 fn play_once<R: Threads + Wait + Sync, J: Job + Sync>(
     rt: &R,
     alloc: Global,
-    instrs: &[Instr],
+    code: Code<Global>,
     workers: u8,
     limit: u32,
     job: &J,
-    calls: &[Call<'_>],
+    calls: &[Call],
 ) -> Result<Played, Fail> {
-    let code = code_of(alloc, instrs)?;
     let (shared, seat) = Shared::new(alloc, code.tasks())?;
     pool_of::<Brand, _, _>(rt, alloc, &shared, seat, code, workers, limit, job, calls)
 }
 
-/// Does the calls with a new pool for these instructions, in time.
-fn play<R: Threads + Wait + Sync + Clock + Abort, J: Job + Sync>(
+/// Does the calls of a script with a new pool for a plan's text, in time.
+fn play<R: AllocGlobal + Threads + Wait + Sync + Clock + Abort, J: Job + Sync>(
     rt: &R,
-    alloc: Global,
-    instrs: &[Instr],
+    plan: &str,
     workers: u8,
     limit: u32,
     job: &J,
-    calls: &[Call<'_>],
+    script: &str,
 ) -> Result<Played, Fail> {
+    let alloc = rt.alloc();
+    let code = code_of(alloc, plan)?;
+    let calls = read_calls(alloc, script)?;
     in_time(
         rt,
-        || play_once(rt, alloc, instrs, workers, limit, job, calls),
+        || play_once(rt, alloc, code, workers, limit, job, &calls),
     )
 }

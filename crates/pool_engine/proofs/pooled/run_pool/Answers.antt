@@ -9,7 +9,7 @@ use Rattle.pool_engine.specs.declared.stops.PoolStop.TheVariants as p
 use Rattle.sched_engine.specs.Stages.{told_of_code}
 use Rattle.pool_engine.specs.ClockLines.{told_of_reading}
 use Rattle.byte_ends.proofs.Tries.{no_try}
-use Rattle.pool_engine.specs.PoolRuns.{PoolRan, told_of_stop}
+use Rattle.pool_engine.specs.PoolRuns.{PoolRan, told_of_pool_stop}
 use Rattle.pool_engine.proofs.Whole.{accepted, ends_unwritten, kept, refused_text, runs_all, stopped, unwritten}
 use Rattle.pool_engine.proofs.pooled.run_pool.Goals as goal
 
@@ -85,7 +85,7 @@ returns-in_err-report-clause-ran g c =
     let after = g.W.Sink.contents c.run_named.new.writer in
     let counted : IsWorkerCount c.args.workers = (omega (arith, c.if-workers-eq0.false), omega (arith, c.if-workers-gt-MOST_WORKERS.false)) in
     let e = c.in_err-report.field-0.0 in
-    let fault : Result Report RunError = Err (told_of_stop e) in
+    let fault : Result Report RunError = Err (told_of_pool_stop e) in
     let told : fault ≡ c.from_residual-in_err-report.result = search rules in
     subst (λ (r : Result Report RunError). PoolRan r c.args.plan_text.now c.args.workers c.args.limit input left before after) told
     (stopped e _ _ _ _ _ _ _ (runs_all (Err e) c.args.plan_text.now (calls_of c.in_ok-code.code) c.args.workers c.args.limit input left before after c.in_ok-moments.moments.items

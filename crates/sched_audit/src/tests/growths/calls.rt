@@ -170,7 +170,7 @@ fn writes_no_listing(
 ) -> bool {
     let mut writer = Writing::new(Vec::new(rt.alloc()));
     heap.refuse(number);
-    let answer = write_listing(heap, PLAN.as_bytes(), &mut writer);
+    let answer = write_listing(heap, PLAN.as_bytes(), &mut writer).map_err(RunError::from);
     let text = writer.into_inner();
     match answer {
         Ok(()) => {

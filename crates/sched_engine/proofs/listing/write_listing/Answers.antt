@@ -1,7 +1,7 @@
 use Rattle.std.proofs.Common.{◌≡◌, Result, Err, subst, rules}
-use Rattle.sched_engine.specs.declared.report.RunError.{RunError}
+use Rattle.sched_engine.specs.declared.report.ListingError.{ListingError}
+use Rattle.sched_engine.specs.declared.report.ListingError.TheVariants as l
 use Rattle.sched_engine.specs.CodeTexts.{CountsListing}
-use Rattle.sched_engine.specs.Stages.{told_of_code}
 use Rattle.sched_engine.proofs.Tries.{lists_none}
 use Rattle.sched_engine.proofs.listing.write_listing.Goals as goal
 
@@ -11,6 +11,6 @@ returns-in_err-text-clause-write g c =
     let failed = g.W.Sink.failed sink in
     let fruitless = g.W.Sink.fruitless sink in
     let e = c.in_err-text.field-0.0 in
-    let fault : Result (Unit {0}) RunError = Err (told_of_code e) in
+    let fault : Result (Unit {0}) ListingError = Err (l.Code e) in
     let told : fault ≡ c.from_residual.result = search rules in
-    subst (λ (r : Result (Unit {0}) RunError). CountsListing r failed fruitless failed fruitless) told (lists_none e failed fruitless)
+    subst (λ (r : Result (Unit {0}) ListingError). CountsListing r failed fruitless failed fruitless) told (lists_none e failed fruitless)

@@ -4,11 +4,14 @@ ghost use Rattle.queue_code.specs.Calls.{task_count};
 ghost use Rattle.queue_code.specs.Codes.{calls_of};
 ghost use Rattle.task_word.specs.Views.{new_core};
 
-use super::{Call, RunNumber, Said, call_of, code_of, in_time, is_done, saw, tasks_of, text_of};
-use crate::{Applied, Job, Named, Pool, PoolError, Shared};
+use super::{
+    Call, RunNumber, Said, call_of, code_of, in_time, is_done, is_said, read_calls, saw, tasks_of,
+    text_of,
+};
+use crate::{Job, Named, Pool, PoolError, Shared};
 use executor_core::Line;
-use queue_code::{Code, Instr};
-use sched_time::{Ending, Timing};
+use queue_code::Code;
+use sched_time::Ending;
 use std::alloc::{AllocError, Global};
 use std::marker::Brand;
 use std::sync::Wait;
@@ -66,11 +69,11 @@ fn call_beside<N: Named + Send + Sync, R: Threads + Wait + Sync>(
     alloc: Global,
     pool: &Pool<'_, N, Global>,
     held: &Held,
-    calls: &[Call<'_>],
+    calls: &[Call],
 ) -> Result<Vec<Said>, AllocError> {
     let mut said = Vec::with_capacity(alloc, calls.len())?;
     if saw(&held.began, 1) {
-        for &call in calls {
+        for call in calls {
             said.push(call_of(rt, pool, &RunNumber, call))?;
         }
     }
@@ -89,7 +92,7 @@ fn beside_of<N: Named + Send + Sync, R: Threads + Wait + Sync>(
     code: Code<Global>,
     workers: u8,
     held: &Held,
-    calls: &[Call<'_>],
+    calls: &[Call],
 ) -> Result<Beside, Fail>
     requires shared { (shared.now.table ≡ N.table) × (shared.now.cells ≡ N.cells) }
     requires seat { (seat.table ≡ shared.now.table) × (seat.view ≡ new_core shared.now.tasks) }
@@ -112,43 +115,34 @@ fn beside_of<N: Named + Send + Sync, R: Threads + Wait + Sync>(
     })
 }
 
-/// The same with a new pool for these instructions.
+/// The same with a new pool for a code.
 fn play_beside<R: Threads + Wait + Sync>(
     rt: &R,
     alloc: Global,
-    instrs: &[Instr],
+    code: Code<Global>,
     workers: u8,
     held: &Held,
-    calls: &[Call<'_>],
+    calls: &[Call],
 ) -> Result<Beside, Fail> {
-    let code = code_of(alloc, instrs)?;
     let (shared, seat) = Shared::new(alloc, code.tasks())?;
     beside_of::<Brand, _>(rt, alloc, &shared, seat, code, workers, held, calls)
 }
 
+/// Calls beside a run, and what they are answered.
+const BESIDE_A_RUN: &str = "run 1 | Ran(Err(Running))
+run | Ran(Err(Running))
+advance 7 | Advanced(Ok(Applied { first: 4, count: 1, work: None }))
+run 8 | Ran(Err(Running))";
+
 #[test]
 fn a_second_run_is_told_so(rt: HostRuntime) -> Result<(), Fail> {
     let alloc = rt.alloc();
-    let instrs = tasks_of(alloc, 2, 0)?;
+    let code = code_of(alloc, tasks_of(alloc, 2, 0)?.as_str())?;
     let held = Held::new(None);
-    let calls = [
-        Call::Run(&[1]),
-        Call::Run(&[]),
-        Call::Advance(7),
-        Call::Run(&[8]),
-    ];
-    let beside = in_time(&rt, || play_beside(&rt, alloc, &instrs, 1, &held, &calls))?;
-    assert_eq!(rt; beside.ran, Ok(()));
-    let running = Said::Ran(Err(PoolError::Running));
-    let applied = Applied {
-        first: 4,
-        count: 1,
-        work: None,
-    };
-    assert_eq!(rt;
-        beside.said.as_slice(),
-        [running, running, Said::Advanced(Ok(applied)), running].as_slice()
-    );
+    let calls = read_calls(alloc, BESIDE_A_RUN)?;
+    let beside = in_time(&rt, || play_beside(&rt, alloc, code, 1, &held, &calls))?;
+    assert!(rt; beside.ran == Ok(()));
+    is_said(&rt, "beside a run", &beside.said, BESIDE_A_RUN)?;
     let text = text_of(alloc, &beside.lines)?;
     let wanted = "0 submit 0 schedule due 0\n0 submit 1 schedule due 0\n0 clock\n\
                   0 start 0 task 0 run 0 due 0\n7 clock\n7 finish 0 task 0 run 0 done 1\n\
@@ -157,18 +151,20 @@ fn a_second_run_is_told_so(rt: HostRuntime) -> Result<(), Fail> {
     Ok(())
 }
 
+/// A task that is due at moment 0, and one that is due at moment 1.
+const TWO: &str =
+    "version = 1\n[[block]]\ncall = [{ op = \"schedule\", name = \"a\", delay = 0 },\n\
+                   { op = \"schedule\", name = \"b\", delay = 1 }]\n";
+
 #[test]
 fn a_clock_from_elsewhere_wakes_a_worker(rt: HostRuntime) -> Result<(), Fail> {
     let alloc = rt.alloc();
-    let instrs = [
-        Instr::Submit(0, Timing::Once, 0),
-        Instr::Submit(0, Timing::Once, 1),
-    ];
+    let code = code_of(alloc, TWO)?;
     // The job of the task that is due at moment 1 lets both end.
     let held = Held::new(Some(1));
-    let calls = [Call::Advance(1)];
-    let beside = in_time(&rt, || play_beside(&rt, alloc, &instrs, 2, &held, &calls))?;
-    assert_eq!(rt; beside.ran, Ok(()));
-    assert_eq!(rt; beside.lines.iter().filter(|line| is_done(line)).count(), 2);
+    let calls = read_calls(alloc, "advance 1")?;
+    let beside = in_time(&rt, || play_beside(&rt, alloc, code, 2, &held, &calls))?;
+    assert!(rt; beside.ran == Ok(()));
+    assert!(rt; beside.lines.iter().filter(|line| is_done(line)).count() == 2);
     Ok(())
 }

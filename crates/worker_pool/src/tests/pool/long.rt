@@ -1,35 +1,33 @@
 //! Runs that are long: of many clocks, and of a task that is run many times.
-use super::{Call, RunNumber, Said, play};
-use crate::{Applied, Job};
+use super::{RunNumber, is_said, play};
+use crate::Job;
 use executor_core::{Answer, Message};
-use queue_code::Instr;
-use sched_time::{Ending, Timing, Unit, span};
+use sched_time::Ending;
 use std::sync::atomic::{AtomicU64, Ordering};
 use std::test::Fail;
 
 /// How many clocks a run has: more than two bytes count.
 const CLOCKS: u64 = 65_537;
 
+/// A clock behind all clocks of a run, which tells of their lines.
+const BEHIND: &str =
+    "advance 65537 | Advanced(Ok(Applied { first: 65537, count: 1, work: None }))\n";
+
 /// Each clock of a run is applied, and its line is the one of that place. A clock behind them tells of all those lines.
 #[test]
 fn each_of_many_clocks_is_applied(rt: HostRuntime) -> Result<(), Fail> {
-    let mut moments = Vec::new(rt.alloc());
+    let mut script = String::from_str(rt.alloc(), "run")?;
     for moment in 0..CLOCKS {
-        moments.push(moment)?;
+        write!(script, " {moment}")?;
     }
-    let calls = [Call::Run(&moments), Call::Advance(CLOCKS)];
-    let played = play(&rt, rt.alloc(), &[], 1, 1_000_000, &RunNumber, &calls)?;
-    let applied = Applied {
-        first: 65_537,
-        count: 1,
-        work: None,
-    };
-    let said = [Said::Ran(Ok(())), Said::Advanced(Ok(applied))];
-    assert_eq!(rt; played.said.as_slice(), said.as_slice());
-    assert_eq!(rt; played.lines.len(), 65_538);
+    write!(script, " | Ran(Ok(()))\n{BEHIND}")?;
+    let plan = "version = 1\n";
+    let played = play(&rt, plan, 1, 1_000_000, &RunNumber, script.as_str())?;
+    is_said(&rt, "many clocks", &played.said, script.as_str())?;
+    assert!(rt; played.lines.len() == 65_538);
     for (place, line) in played.lines.iter().enumerate() {
-        assert_eq!(rt; line.moment(), place as u64);
-        assert_eq!(rt; line.message(), Message::Answer(Answer::Clock));
+        assert!(rt; line.moment() == place as u64);
+        assert!(rt; line.message() == Message::Answer(Answer::Clock));
     }
     Ok(())
 }
@@ -51,18 +49,21 @@ impl Job for InOrder {
     }
 }
 
-/// A task at a fixed rate of one, which is due at the moments 0 to 299.
+/// A task at a fixed rate of one.
+const EACH_NANOSECOND: &str =
+    "version = 1\n[[block]]\ncall = [{ op = \"rate\", name = \"a\", first = 0, period = 1 }]\n";
+
+/// The task is due at the moments 0 to 299.
 #[test]
 fn a_job_is_told_the_number_of_each_of_many_runs(rt: HostRuntime) -> Result<(), Fail> {
     let job = InOrder {
         next: AtomicU64::new(0),
         astray: AtomicU64::new(0),
     };
-    let instrs = [Instr::Submit(0, Timing::Rate(span(1, Unit::Ns)?), 0)];
-    let calls = [Call::Run(&[299])];
-    let played = play(&rt, rt.alloc(), &instrs, 1, 1_000_000, &job, &calls)?;
-    assert_eq!(rt; played.said.as_slice(), [Said::Ran(Ok(()))].as_slice());
-    assert_eq!(rt; job.astray.load(Ordering::SeqCst), 0);
-    assert_eq!(rt; job.next.load(Ordering::SeqCst), 300);
+    let script = "run 299 | Ran(Ok(()))";
+    let played = play(&rt, EACH_NANOSECOND, 1, 1_000_000, &job, script)?;
+    is_said(&rt, "many runs", &played.said, script)?;
+    assert!(rt; job.astray.load(Ordering::SeqCst) == 0);
+    assert!(rt; job.next.load(Ordering::SeqCst) == 300);
     Ok(())
 }

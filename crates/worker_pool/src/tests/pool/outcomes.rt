@@ -1,130 +1,132 @@
 //! What a run comes to, which errors come, and what later runs are answered.
-use super::{Call, Played, RunNumber, Said, conforms, is_done, play, tasks_of, text_of};
-use crate::{Applied, Job, PoolError};
+use super::{Played, RunNumber, conforms, is_done, is_said, play, tasks_of, text_of};
+use crate::Job;
 use executor_core::{Answer, Line, Message};
 use plan_read::read_plan;
 use result_cell::Verdict;
 use sched_time::Ending;
 use std::alloc::AllocGlobal;
 use std::process::Abort;
+use std::sync::Wait;
 use std::sync::atomic::{AtomicU64, Ordering};
 use std::test::Fail;
+use std::thread::Threads;
+use std::time::Clock;
 
-/// Checks what calls are answered, and the text of the lines.
-fn check(
-    rt: &(impl Abort + AllocGlobal),
-    played: &Played,
-    said: &[Said],
-    text: &str,
-) -> Result<(), Fail> {
+/// Some tasks that are submitted at moment 0, with their delay, what is done with a pool of one worker for them, and the text of its
+/// lines then. A line of the script has a call, ` | ` and what it is answered.
+#[derive(Clone, Copy)]
+struct Row<'a> {
+    name: &'a str,
+    tasks: u8,
+    delay: u64,
+    limit: u32,
+    script: &'a str,
+    trace: &'a str,
+}
+
+const A_TASK_IS_RUN_ONCE_IT_IS_DUE: Row<'static> = Row {
+    name: "a task is run once it is due",
+    tasks: 1,
+    delay: 5,
+    limit: 1_000_000,
+    script: "advance 0 | Advanced(Ok(Applied { first: 0, count: 2, work: None }))
+run 5 | Ran(Ok(()))
+",
+    trace: "0 submit 0 schedule due 5
+0 clock
+5 clock
+5 start 0 task 0 run 0 due 5
+5 finish 0 task 0 run 0 done 0
+",
+};
+
+const A_LIMIT_ENDS_THIS_RUN_AND_EACH_LATER_ONE: Row<'static> = Row {
+    name: "a limit ends this run and each later one",
+    tasks: 1,
+    delay: 5,
+    limit: 3,
+    script: "run 0 5 | Ran(Err(Full))
+run 6 | Ran(Err(Full))
+run | Ran(Err(Full))
+advance 9 | Advanced(Err(Full))
+",
+    trace: "0 submit 0 schedule due 5
+0 clock
+5 clock
+5 start 0 task 0 run 0 due 5
+",
+};
+
+const A_REFUSED_ADVANCE_ENDS_NO_RUN: Row<'static> = Row {
+    name: "a refused advance ends no run",
+    tasks: 1,
+    delay: 5,
+    limit: 1,
+    script: "advance 0 | Advanced(Ok(Applied { first: 0, count: 2, work: None }))
+advance 5 | Advanced(Err(Full))
+run | Ran(Ok(()))
+run 6 | Ran(Err(Full))
+run | Ran(Err(Full))
+",
+    trace: "0 submit 0 schedule due 5
+0 clock
+",
+};
+
+const NOTHING_STARTS_BEFORE_A_CLOCK_OF_THE_RUN: Row<'static> = Row {
+    name: "nothing starts before a clock of the run",
+    tasks: 2,
+    delay: 0,
+    limit: 1_000_000,
+    script: "advance 3 | Advanced(Ok(Applied { first: 0, count: 3, work: None }))
+run | Ran(Ok(()))
+run | Ran(Ok(()))
+run 2 | Ran(Ok(()))
+run 4 | Ran(Ok(()))
+",
+    trace: "0 submit 0 schedule due 0
+0 submit 1 schedule due 0
+3 clock
+3 error backward
+3 start 0 task 0 run 0 due 0
+3 finish 0 task 0 run 0 done 0
+3 start 0 task 1 run 0 due 0
+3 finish 0 task 1 run 0 done 0
+4 clock
+",
+};
+
+/// Checks what the calls of a row are answered, and the text of the lines; and gives back what else is known.
+fn plays<R: AllocGlobal + Threads + Wait + Sync + Clock + Abort>(
+    rt: &R,
+    row: &Row<'_>,
+) -> Result<Played, Fail> {
+    let plan = tasks_of(rt.alloc(), row.tasks, row.delay)?;
+    let played = play(rt, plan.as_str(), 1, row.limit, &RunNumber, row.script)?;
+    is_said(rt, row.name, &played.said, row.script)?;
     let written = text_of(rt.alloc(), &played.lines)?;
-    assert_eq!(rt; played.said.as_slice(), said);
-    assert!(rt; written.as_slice() == text.as_bytes(), "{text}");
-    Ok(())
+    assert!(rt; written.as_slice() == row.trace.as_bytes(), "{}", row.name);
+    Ok(played)
 }
 
 #[test]
-fn a_task_is_run_once_it_is_due(rt: HostRuntime) -> Result<(), Fail> {
-    let instrs = tasks_of(rt.alloc(), 1, 5)?;
-    let calls = [Call::Advance(0), Call::Run(&[5])];
-    let played = play(&rt, rt.alloc(), &instrs, 1, 1_000_000, &RunNumber, &calls)?;
-    let applied = Applied {
-        first: 0,
-        count: 2,
-        work: None,
-    };
-    let said = [Said::Advanced(Ok(applied)), Said::Ran(Ok(()))];
+fn each_row_is_played(rt: HostRuntime) -> Result<(), Fail> {
+    for row in [
+        A_LIMIT_ENDS_THIS_RUN_AND_EACH_LATER_ONE,
+        A_REFUSED_ADVANCE_ENDS_NO_RUN,
+        NOTHING_STARTS_BEFORE_A_CLOCK_OF_THE_RUN,
+    ] {
+        plays(&rt, &row)?;
+    }
+    let played = plays(&rt, &A_TASK_IS_RUN_ONCE_IT_IS_DUE)?;
     let verdict = Verdict {
         task: 0,
         ending: Ending::Value(0),
     };
-    assert_eq!(rt; played.results.as_slice(), [Some(verdict)].as_slice());
-    assert_eq!(rt; played.agreed.as_slice(), [Some(verdict)].as_slice());
-    check(
-        &rt,
-        &played,
-        &said,
-        "0 submit 0 schedule due 5\n0 clock\n5 clock\n5 start 0 task 0 run 0 due 5\n5 finish 0 task 0 run 0 done 0\n",
-    )
-}
-
-#[test]
-fn a_limit_ends_this_run_and_each_later_one(rt: HostRuntime) -> Result<(), Fail> {
-    let instrs = tasks_of(rt.alloc(), 1, 5)?;
-    let calls = [
-        Call::Run(&[0, 5]),
-        Call::Run(&[6]),
-        Call::Run(&[]),
-        Call::Advance(9),
-    ];
-    let played = play(&rt, rt.alloc(), &instrs, 1, 3, &RunNumber, &calls)?;
-    let full = Said::Ran(Err(PoolError::Full));
-    let said = [full, full, full, Said::Advanced(Err(PoolError::Full))];
-    check(
-        &rt,
-        &played,
-        &said,
-        "0 submit 0 schedule due 5\n0 clock\n5 clock\n5 start 0 task 0 run 0 due 5\n",
-    )
-}
-
-#[test]
-fn a_refused_advance_ends_no_run(rt: HostRuntime) -> Result<(), Fail> {
-    let instrs = tasks_of(rt.alloc(), 1, 5)?;
-    let calls = [
-        Call::Advance(0),
-        Call::Advance(5),
-        Call::Run(&[]),
-        Call::Run(&[6]),
-        Call::Run(&[]),
-    ];
-    let played = play(&rt, rt.alloc(), &instrs, 1, 1, &RunNumber, &calls)?;
-    let applied = Applied {
-        first: 0,
-        count: 2,
-        work: None,
-    };
-    let full = Err(PoolError::Full);
-    let said = [
-        Said::Advanced(Ok(applied)),
-        Said::Advanced(full),
-        Said::Ran(Ok(())),
-        Said::Ran(full_run()),
-        Said::Ran(full_run()),
-    ];
-    check(&rt, &played, &said, "0 submit 0 schedule due 5\n0 clock\n")
-}
-
-/// The answer to a run at the limit.
-fn full_run() -> Result<(), PoolError> {
-    Err(PoolError::Full)
-}
-
-#[test]
-fn nothing_starts_before_a_clock_of_the_run(rt: HostRuntime) -> Result<(), Fail> {
-    let instrs = tasks_of(rt.alloc(), 2, 0)?;
-    let calls = [
-        Call::Advance(3),
-        Call::Run(&[]),
-        Call::Run(&[]),
-        Call::Run(&[2]),
-        Call::Run(&[4]),
-    ];
-    let played = play(&rt, rt.alloc(), &instrs, 1, 1_000_000, &RunNumber, &calls)?;
-    let applied = Applied {
-        first: 0,
-        count: 3,
-        work: None,
-    };
-    let ran = Said::Ran(Ok(()));
-    check(
-        &rt,
-        &played,
-        &[Said::Advanced(Ok(applied)), ran, ran, ran, ran],
-        "0 submit 0 schedule due 0\n0 submit 1 schedule due 0\n3 clock\n3 error backward\n\
-         3 start 0 task 0 run 0 due 0\n3 finish 0 task 0 run 0 done 0\n\
-         3 start 0 task 1 run 0 due 0\n3 finish 0 task 1 run 0 done 0\n4 clock\n",
-    )
+    assert!(rt; played.results.as_slice() == [Some(verdict)].as_slice());
+    assert!(rt; played.agreed.as_slice() == [Some(verdict)].as_slice());
+    Ok(())
 }
 
 /// A job that waits until so many of them run at once; those of later tasks, until so many of them do so again.
@@ -155,28 +157,29 @@ fn is_finish(line: &Line) -> bool {
     matches!(line.message(), Message::Answer(Answer::Finish { .. }))
 }
 
+/// Checks that a handle reads of so many tasks that they are done with the value 1.
+fn all_done(rt: &impl Abort, played: &Played, tasks: usize) {
+    assert!(rt; played.results.len() == tasks);
+    for (task, result) in played.results.iter().enumerate() {
+        let verdict = Verdict {
+            task: task as u32,
+            ending: Ending::Value(1),
+        };
+        assert!(rt; *result == Some(verdict), "{task}");
+    }
+}
+
 /// Checks that each of so many tasks, of which there is one for each worker, is done, and that its job saw all others.
 fn check_all_saw(
     rt: &(impl AllocGlobal + Abort),
     played: &Played,
     workers: u8,
 ) -> Result<(), Fail> {
-    assert_eq!(rt; played.said.as_slice(), [Said::Ran(Ok(()))].as_slice());
-    assert_eq!(rt; played.results.len(), workers as usize);
-    for (task, result) in played.results.iter().enumerate() {
-        let verdict = Verdict {
-            task: task as u32,
-            ending: Ending::Value(1),
-        };
-        assert_eq!(rt; *result, Some(verdict));
-    }
+    all_done(rt, played, workers as usize);
     let finishes = played.lines.iter().filter(|line| is_finish(line)).count();
     let done = played.lines.iter().filter(|line| is_done(line)).count();
     assert_eq!(rt; (finishes, done), (workers as usize, workers as usize));
-    let plan = format!(in rt.alloc();
-        "version = 1\n[[block]]\ntimes = {workers}\nevery = 0\ncall = [{{ op = \"schedule\", name = \"a\", delay = 0 }}]\n"
-    )?;
-    let plan = read_plan(rt.alloc(), plan.as_bytes())?;
+    let plan = read_plan(rt.alloc(), tasks_of(rt.alloc(), workers, 0)?.as_bytes())?;
     conforms(rt, &plan, workers, &played.lines)
 }
 
@@ -188,9 +191,10 @@ fn as_many_jobs_run_as_there_are_workers(rt: HostRuntime) -> Result<(), Fail> {
             wanted: workers as u64,
             inside: AtomicU64::new(0),
         };
-        let instrs = tasks_of(rt.alloc(), workers as usize, 0)?;
-        let calls = [Call::Run(&[0])];
-        let played = play(&rt, rt.alloc(), &instrs, workers, 1_000_000, &gate, &calls)?;
+        let plan = tasks_of(rt.alloc(), workers, 0)?;
+        let script = "run 0 | Ran(Ok(()))";
+        let played = play(&rt, plan.as_str(), workers, 1_000_000, &gate, script)?;
+        is_said(&rt, "as many jobs as workers", &played.said, script)?;
         check_all_saw(&rt, &played, workers)?;
     }
     Ok(())
@@ -205,19 +209,14 @@ fn workers_run_jobs_at_the_same_time(rt: HostRuntime) -> Result<(), Fail> {
             inside: AtomicU64::new(0),
         };
         // At moment 5 all workers are asleep, since they have run the tasks that are due at moment 0.
-        let mut instrs = tasks_of(rt.alloc(), workers as usize, 0)?;
-        instrs.extend_from_slice(&tasks_of(rt.alloc(), workers as usize, 5)?)?;
-        let calls = [Call::Run(&[0, 5])];
-        let played = play(&rt, rt.alloc(), &instrs, workers, 1_000_000, &gate, &calls)?;
-        assert_eq!(rt; played.said.as_slice(), [Said::Ran(Ok(()))].as_slice());
-        assert_eq!(rt; played.results.len(), 2 * workers as usize);
-        for (task, result) in played.results.iter().enumerate() {
-            let verdict = Verdict {
-                task: task as u32,
-                ending: Ending::Value(1),
-            };
-            assert_eq!(rt; *result, Some(verdict));
-        }
+        let plan = format!(in rt.alloc();
+            "{}[[block]]\ntimes = {workers}\nevery = 0\ncall = [{{ op = \"schedule\", name = \"b\", delay = 5 }}]\n",
+            tasks_of(rt.alloc(), workers, 0)?.as_str()
+        )?;
+        let script = "run 0 5 | Ran(Ok(()))";
+        let played = play(&rt, plan.as_str(), workers, 1_000_000, &gate, script)?;
+        is_said(&rt, "jobs at the same time", &played.said, script)?;
+        all_done(&rt, &played, 2 * workers as usize);
     }
     Ok(())
 }

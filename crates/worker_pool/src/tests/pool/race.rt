@@ -370,8 +370,8 @@ fn check_raced(
     race: &Race<'_>,
     raced: &Raced,
 ) -> Result<bool, Fail> {
-    assert_eq!(rt; raced.ran, race.ran);
-    assert_eq!(rt; raced.again, race.ran);
+    assert!(rt; raced.ran == race.ran);
+    assert!(rt; raced.again == race.ran);
     assert!(rt; raced.keeps, "a task that was won is not cancelled");
     assert!(rt;
         !raced.gave_up,
@@ -387,7 +387,7 @@ fn check_raced(
         );
         cancelled = cancelled.saturating_add(*outside as u64);
     }
-    assert_eq!(rt; raced.won as u64, cancelled);
+    assert!(rt; raced.won as u64 == cancelled);
     conforms(rt, plan, race.workers, &raced.lines)?;
     Ok(ends.any_well)
 }

@@ -32,20 +32,20 @@ fn take_all<N: Named, R: Wait + Abort + AllocGlobal>(
     for _handle in 0..62u8 {
         others.push(pool.handle(rt)?)?;
     }
-    assert_eq!(rt; pool.handle(rt).err(), Some(PoolError::Seats));
-    assert_eq!(rt; pool.handle(rt).err(), Some(PoolError::Seats));
+    assert!(rt; pool.handle(rt).err() == Some(PoolError::Seats));
+    assert!(rt; pool.handle(rt).err() == Some(PoolError::Seats));
     let mut book = pool.end();
-    assert_eq!(rt; book.admit(shared).err(), Some(PoolError::Seats));
+    assert!(rt; book.admit(shared).err() == Some(PoolError::Seats));
     assert!(rt; book.retire(shared, first).is_ok());
     assert!(rt; book.admit(shared).is_ok());
-    assert_eq!(rt; book.admit(shared).err(), Some(PoolError::Seats));
+    assert!(rt; book.admit(shared).err() == Some(PoolError::Seats));
     Ok(())
 }
 
 /// The same with a new pool for a task.
 fn play_seats<R: Wait + Abort + AllocGlobal>(rt: &R) -> Result<(), Fail> {
     let alloc = rt.alloc();
-    let code = code_of(alloc, &tasks_of(alloc, 1, 0)?)?;
+    let code = code_of(alloc, tasks_of(alloc, 1, 0)?.as_str())?;
     let (shared, seat) = Shared::new(alloc, code.tasks())?;
     take_all::<Brand, _>(rt, &shared, seat, code)
 }

@@ -38,15 +38,18 @@ fn double_three<N: Named + Send + Sync, R: Threads + Wait + Sync>(
     requires tasks { shared.now.tasks ≡ task_count (calls_of code) }
     requires named { (calls_of code ≡ N.calls) × (2 ≡ N.workers) }
 {
-    let pool = Pool::<N, Global>::new(alloc, shared, seat, code, 2, 100)?;
-    let mut handle = pool.handle(rt)?;
-    pool.run(rt, &Double, &[0, 5])?;
+    // example: worker_pool::Pool::run
+    let pool = Pool::<N, Global>::new(alloc, shared, seat, code, 2, 100)?; // two workers
+    let mut handle = pool.handle(rt)?; // for another thread
+    // `Double` is a `Job`: it answers twice the number of its task.
+    pool.run(rt, &Double, &[0, 5])?; // what is due at moment 0, and then what is at 5
+    // end of example
     Ok(handle.result(3))
 }
 
 /// The same with a new pool for four tasks that are due at moment 5.
 fn play_double<R: Threads + Wait + Sync>(rt: &R, alloc: Global) -> Result<Option<Verdict>, Fail> {
-    let code = code_of(alloc, &tasks_of(alloc, 4, 5)?)?;
+    let code = code_of(alloc, tasks_of(alloc, 4, 5)?.as_str())?;
     let (shared, seat) = Shared::new(alloc, code.tasks())?;
     Ok(double_three::<Brand, _>(rt, alloc, &shared, seat, code)?)
 }
@@ -57,9 +60,6 @@ fn a_job_of_ones_own_is_run(rt: HostRuntime) -> Result<(), Fail> {
         task: 3,
         ending: Ending::Value(6),
     };
-    assert_eq!(rt;
-        in_time(&rt, || play_double(&rt, rt.alloc()))?,
-        Some(wanted)
-    );
+    assert!(rt; in_time(&rt, || play_double(&rt, rt.alloc()))? == Some(wanted));
     Ok(())
 }

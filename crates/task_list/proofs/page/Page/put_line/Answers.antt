@@ -12,7 +12,7 @@ returns g c =
       c.put-5.ensures,
       c.put-4.ensures,
       c.as_bytes-2.ensures.value,
-      c.kind_text.ensures,
+      c.kind_word.ensures,
       c.put-3.ensures,
       c.put-2.ensures,
       c.as_bytes.ensures.value,

@@ -4,10 +4,9 @@ use Rattle.task_word.specs.declared.views.CoreSeatView.{CoreSeatView}
 use Rattle.queue_code.specs.Calls.{task_count}
 use Rattle.executor_core.specs.declared.types.Need.TheVariants as n
 use Rattle.executor_core.specs.declared.foreseen.Foreseen.{Foreseen}
-use Rattle.executor_core.specs.Histories.{is_call}
+use Rattle.executor_core.specs.Histories.{is_call, is_end as stands_in}
 use Rattle.executor_core.specs.CoreView.{workers_of, Steps, comes_before_event}
 use Rattle.executor_laws.specs.Cancels.{is_needed}
-use Rattle.worker_pool.specs.Books.{stands_in}
 use Rattle.worker_pool.specs.own.Moves.{CanMove, WasMet, moves_made}
 use Rattle.worker_pool.specs.own.Steps.{IsKept, past_in, need_in, OnlyOwnGrows, Completes, MovesOn}
 use Rattle.worker_pool.proofs.Steps.{own_then}

@@ -1,0 +1,151 @@
+//! Sessions: the program is run as a text says, in a world in memory, and has to answer as the text says.
+//!
+//! Behind a name, `$ ` begins a run by its command line. Each line behind it has a sign, and tells what is given or answered:
+//!
+//! | Sign | What stands behind it |
+//! |---|---|
+//! | `<` | a line of standard input |
+//! | `>` | a line of standard output |
+//! | `!` | a line of standard error |
+//! | `=` | the status, which else is 1 where there is a line of standard error, and 0 where there is none |
+//! | `plan` | a line of `plan.toml`, which else has the plan of one delayed task |
+//! | `trace` | a line of `trace.txt` |
+//! | `file` | a line of the file that is created |
+//! | `with` | `closed output`; `broken plan` or `broken trace`, a file at fault behind its lines; `new file` or `full file`, where one can be created, and where it takes no byte |
+use super::world::{Created, Given, file, run_in};
+use super::{ONE_DELAY, ends};
+use std::alloc::{AllocError, Global};
+use std::process::Abort;
+use std::sync::Wait;
+use std::test::Fail;
+use std::thread::Threads;
+
+/// A run of the program: what it is given, and what it has to answer.
+#[derive(Drop)]
+struct Session<'a> {
+    line: &'a str,
+    events: String,
+    out: String,
+    err: String,
+    plan: String,
+    trace: String,
+    created: String,
+    status: Option<u8>,
+    is_closed: bool,
+    is_plan_broken: bool,
+    is_trace_broken: bool,
+    creates: bool,
+    is_full: bool,
+}
+
+/// Adds a line.
+fn add(text: &mut String, line: &str) -> Result<(), AllocError> {
+    text.push_str(line)?;
+    text.push('\n')
+}
+
+impl<'a> Session<'a> {
+    /// A run by a command line.
+    fn new(alloc: Global, line: &'a str) -> Session<'a> {
+        Session {
+            line,
+            events: String::new(alloc),
+            out: String::new(alloc),
+            err: String::new(alloc),
+            plan: String::new(alloc),
+            trace: String::new(alloc),
+            created: String::new(alloc),
+            status: None,
+            is_closed: false,
+            is_plan_broken: false,
+            is_trace_broken: false,
+            creates: false,
+            is_full: false,
+        }
+    }
+
+    /// Takes a line behind that of the command.
+    fn take(&mut self, line: &str) -> Result<(), Fail> {
+        let (sign, rest) = line.split_once(" ").unwrap_or((line, ""));
+        match sign {
+            "<" => add(&mut self.events, rest)?,
+            ">" => add(&mut self.out, rest)?,
+            "!" => add(&mut self.err, rest)?,
+            "plan" => add(&mut self.plan, rest)?,
+            "trace" => add(&mut self.trace, rest)?,
+            "file" => add(&mut self.created, rest)?,
+            "=" => self.status = Some(rest.parse::<u8>()?),
+            "with" => return self.take_with(rest),
+            _ => return Err("no such sign".into()),
+        }
+        Ok(())
+    }
+
+    /// Takes what is out of order, or may be created.
+    fn take_with(&mut self, what: &str) -> Result<(), Fail> {
+        match what {
+            "closed output" => self.is_closed = true,
+            "broken plan" => self.is_plan_broken = true,
+            "broken trace" => self.is_trace_broken = true,
+            "new file" => self.creates = true,
+            "full file" => {
+                self.creates = true;
+                self.is_full = true;
+            }
+            _ => return Err("no such thing".into()),
+        }
+        Ok(())
+    }
+
+    /// Runs the program, and checks what it answers.
+    fn check<R: AllocGlobal + Abort + Threads + Wait + Sync>(&self, rt: &R, name: &str) {
+        let created = Created::new(rt.alloc(), self.is_full);
+        let plan = if self.plan.is_empty() {
+            ONE_DELAY
+        } else {
+            self.plan.as_str()
+        };
+        let given = Given {
+            line: self.line,
+            plan: file(plan, self.is_plan_broken),
+            trace: file(self.trace.as_str(), self.is_trace_broken),
+            events: self.events.as_bytes(),
+            is_closed: self.is_closed,
+            created: if self.creates { Some(&created) } else { None },
+        };
+        let ended = run_in(rt, given);
+        let faults = u8::from(!self.err.is_empty());
+        let status = self.status.unwrap_or(faults);
+        ends(
+            rt,
+            name,
+            &ended,
+            status,
+            self.out.as_str(),
+            self.err.as_str(),
+        );
+        assert!(rt; created.files.get() == u32::from(self.creates), "{name}");
+        let bytes = created.bytes.into_inner();
+        assert!(rt; bytes.as_slice() == self.created.as_bytes(), "{name}");
+    }
+}
+
+/// Runs the program as often as a text says, and checks what it answers.
+pub fn plays<R: AllocGlobal + Abort + Threads + Wait + Sync>(
+    rt: &R,
+    text: &str,
+) -> Result<(), Fail> {
+    let name = text.lines().next().unwrap_or("");
+    for run in text.split("$ ").skip(1) {
+        let mut lines = run.lines();
+        let line = lines.next().ok_or("no command line")?;
+        let mut session = Session::new(rt.alloc(), line);
+        for line in lines {
+            if !line.is_empty() {
+                session.take(line)?;
+            }
+        }
+        session.check(rt, name);
+    }
+    Ok(())
+}

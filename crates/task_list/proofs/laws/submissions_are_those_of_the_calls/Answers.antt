@@ -1,5 +1,0 @@
-use Rattle.task_list.proofs.Told.{told_alike}
-use Rattle.task_list.proofs.laws.submissions_are_those_of_the_calls.Goals as goal
-
-pub returns : goal.returns
-returns c = told_alike
