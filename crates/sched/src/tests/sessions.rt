@@ -97,23 +97,30 @@ impl<'a> Session<'a> {
         Ok(())
     }
 
-    /// Runs the program, and checks what it answers.
-    fn check<R: AllocGlobal + Abort + Threads + Wait + Sync>(&self, rt: &R, name: &str) {
-        let created = Created::new(rt.alloc(), self.is_full);
-        let plan = if self.plan.is_empty() {
+    /// What the program is given.
+    fn given<'g>(&'g self, created: Option<&'g Created>) -> Given<'g> {
+        let text = if self.plan.is_empty() {
             ONE_DELAY
         } else {
             self.plan.as_str()
         };
-        let given = Given {
+        let plan = file(text, self.is_plan_broken);
+        let trace = file(self.trace.as_str(), self.is_trace_broken);
+        Given {
             line: self.line,
-            plan: file(plan, self.is_plan_broken),
-            trace: file(self.trace.as_str(), self.is_trace_broken),
+            plan,
+            trace,
             events: self.events.as_bytes(),
             is_closed: self.is_closed,
-            created: if self.creates { Some(&created) } else { None },
-        };
-        let ended = run_in(rt, given);
+            created,
+        }
+    }
+
+    /// Runs the program, and checks what it answers.
+    fn check<R: AllocGlobal + Abort + Threads + Wait + Sync>(&self, rt: &R, name: &str) {
+        let created = Created::new(rt.alloc(), self.is_full);
+        let kept = if self.creates { Some(&created) } else { None };
+        let ended = run_in(rt, self.given(kept));
         let faults = u8::from(!self.err.is_empty());
         let status = self.status.unwrap_or(faults);
         ends(

@@ -158,11 +158,11 @@ fn is_finish(line: &Line) -> bool {
 }
 
 /// Checks that a handle reads of so many tasks that they are done with the value 1.
-fn all_done(rt: &impl Abort, played: &Played, tasks: usize) {
-    assert!(rt; played.results.len() == tasks);
-    for (task, result) in played.results.iter().enumerate() {
+fn all_done(rt: &impl Abort, played: &Played, tasks: u32) {
+    assert!(rt; played.results.len() == tasks as usize);
+    for (task, result) in (0..tasks).zip(played.results.iter()) {
         let verdict = Verdict {
-            task: task as u32,
+            task,
             ending: Ending::Value(1),
         };
         assert!(rt; *result == Some(verdict), "{task}");
@@ -175,7 +175,7 @@ fn check_all_saw(
     played: &Played,
     workers: u8,
 ) -> Result<(), Fail> {
-    all_done(rt, played, workers as usize);
+    all_done(rt, played, u32::from(workers));
     let finishes = played.lines.iter().filter(|line| is_finish(line)).count();
     let done = played.lines.iter().filter(|line| is_done(line)).count();
     assert_eq!(rt; (finishes, done), (workers as usize, workers as usize));
@@ -216,7 +216,7 @@ fn workers_run_jobs_at_the_same_time(rt: HostRuntime) -> Result<(), Fail> {
         let script = "run 0 5 | Ran(Ok(()))";
         let played = play(&rt, plan.as_str(), workers, 1_000_000, &gate, script)?;
         is_said(&rt, "jobs at the same time", &played.said, script)?;
-        all_done(&rt, &played, 2 * workers as usize);
+        all_done(&rt, &played, 2 * u32::from(workers));
     }
     Ok(())
 }
