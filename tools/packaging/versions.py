@@ -23,7 +23,7 @@ PLACES = [
     ("docs/EMBEDDING.md", r"(?<=dist/sched_timers-)\d+\.\d+\.\d+(?=-py3)", "{0}.{1}.{2}"),
     ("docs/EMBEDDING.md", r"(?<=dist/sched-rust-)\d+\.\d+\.\d+(?=\.tar)", "{0}.{1}.{2}"),
     ("docs/EMBEDDING.md", r"(?<=--path sched-rust-)\d+\.\d+\.\d+", "{0}.{1}.{2}"),
-    ("crates/sched/src/tests/help.rt", r'(?<=\["sched )\d+\.\d+\.\d+(?= )', "{0}.{1}.{2}"),
+    ("crates/sched/src/tests/help.rt", r"(?<=--version\nsched )\d+\.\d+\.\d+(?= )", "{0}.{1}.{2}"),
     ("examples/embed/rust/Cargo.toml", r'(?<=name = "sched"\nversion = ")[^"]*', "{0}.{1}.{2}"),
     ("examples/embed/rust/Cargo.lock", r'(?<=name = "sched"\nversion = ")[^"]*', "{0}.{1}.{2}"),
 ]
