@@ -12,7 +12,7 @@
 //! | `trace` | a line of `trace.txt` |
 //! | `file` | a line of the file that is created |
 //! | `with` | `closed output`; `broken plan` or `broken trace`, a file at fault behind its lines; `new file` or `full file`, where one can be created, and where it takes no byte |
-use super::world::{Created, Given, file, run_in};
+use super::world::{Created, Ended, Given, file, run_in};
 use super::{ONE_DELAY, ends};
 use std::alloc::{AllocError, Global};
 use std::process::Abort;
@@ -116,11 +116,20 @@ impl<'a> Session<'a> {
         }
     }
 
+    /// Runs the program, which may create files where these can be.
+    fn ended<'g, R: AllocGlobal + Threads + Wait + Sync>(
+        &'g self,
+        rt: &R,
+        created: &'g Created,
+    ) -> Ended {
+        let kept: Option<&'g Created> = if self.creates { Some(created) } else { None };
+        run_in(rt, self.given(kept))
+    }
+
     /// Runs the program, and checks what it answers.
     fn check<R: AllocGlobal + Abort + Threads + Wait + Sync>(&self, rt: &R, name: &str) {
         let created = Created::new(rt.alloc(), self.is_full);
-        let kept = if self.creates { Some(&created) } else { None };
-        let ended = run_in(rt, self.given(kept));
+        let ended = (&*self).ended(rt, &created);
         let faults = u8::from(!self.err.is_empty());
         let status = self.status.unwrap_or(faults);
         ends(
