@@ -106,7 +106,7 @@ impl<A: Allocator> Checker<A> {
     }
 
     /// Takes the lines of a text, as far as they go. Where `keeps` says so, each is put behind the ones before it. It is one loop for
-    /// both, so that the reading of a line stands in it once, and in no call.
+    /// both, in which the reading of a line stands once.
     #[inline(never)]
     fn run(
         &mut self,

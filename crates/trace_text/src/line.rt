@@ -33,8 +33,8 @@ pub fn split_line(bytes: &[u8]) -> Option<(Line, &[u8])>
     split_one::<false>(bytes)
 }
 
-/// As [`split_line`]: compiled once for it, and once for [`read_line`]. So a program that reads many lines in one loop has it in that
-/// loop, and not by a call.
+/// As [`split_line`]: compiled once for it, and once for [`read_line`]. So it stands in the loop of a program that reads many lines
+/// in one loop; what a line says is read by a call from there.
 #[inline]
 fn split_one<const ALONE: bool>(bytes: &[u8]) -> Option<(Line, &[u8])>
     ensures { MatchOption result (IsUnread line_text FitsLine bytes.now)
