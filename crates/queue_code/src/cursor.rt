@@ -1,4 +1,4 @@
-ghost use Rattle.std.specs.Prelude.{◌≡◌, ◌≢◌, ℕ, ◌+◌, ◌^◌, ◌<◌, ◌≤◌, ◌⊎◌, Some, None, IfSome, slice_get, length, drop, option_map};
+ghost use Rattle.std.specs.Prelude.{◌≡◌, ◌≢◌, ℕ, ◌+◌, ◌^◌, ◌<◌, ◌≤◌, ◌⊎◌, Some, None, IfSome, IsTrue, slice_get, length, drop, option_map};
 ghost use Rattle.sched_time.specs.Times.{longest};
 ghost use Rattle.queue_code.specs.Calls.{IsOrderlyCall, most_calls_of_code};
 ghost use Rattle.queue_code.specs.Codes.{calls_of, call_by};
@@ -101,9 +101,23 @@ impl Cursor {
         ensures over { result ≡ None → IsOver code.now self.new }
         ensures rests { IsOver code.now self.old → self.new ≡ self.old }
     {
+        if self.is_at_call(code) {
+            return self.make(code);
+        }
         self.leave(code);
         self.enter(code);
         self.make(code)
+    }
+
+    /// Whether it stands at a call, and so neither at an end of a loop nor at that of the code.
+    #[inline(always)]
+    fn is_at_call<A: Allocator>(&self, code: &Code<A>) -> bool
+        ensures { IsTrue result → IsPlain (slice_get code.now self.now.index) }
+    {
+        match code.get(self.index) {
+            Some(instr) => instr.is_call(),
+            None => false,
+        }
     }
 
     /// At the end of a loop: goes back to its first instruction, or on after the last iteration.
@@ -155,6 +169,7 @@ impl Cursor {
     }
 
     /// At a call or at the halt: executes it.
+    #[inline(always)]
     fn make<A: Allocator>(&mut self, code: &Code<A>) -> Option<(u64, CodeCall)>
         requires cursor { IsCursorAt code.now self.old }
         requires plain { IsPlain (slice_get code.now self.old.index) }

@@ -1,4 +1,6 @@
 //! How far the executor is.
+ghost use Rattle.std.specs.Prelude.{◌<◌, length};
+
 use crate::Row;
 
 /// The rows of this module.
@@ -8,7 +10,9 @@ const ALL: &[Row] = &[
 ];
 
 /// The rows of this module.
-pub fn all() -> &'static [Row] {
+pub fn all() -> &'static [Row]
+    ensures { 0 < length result.now }
+{
     ALL
 }
 

@@ -1,4 +1,6 @@
 //! Tasks that are refused or cancelled.
+ghost use Rattle.std.specs.Prelude.{◌<◌, length};
+
 use crate::Row;
 
 /// The rows of this module.
@@ -12,7 +14,9 @@ const ALL: &[Row] = &[
 ];
 
 /// The rows of this module.
-pub fn all() -> &'static [Row] {
+pub fn all() -> &'static [Row]
+    ensures { 0 < length result.now }
+{
     ALL
 }
 

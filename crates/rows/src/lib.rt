@@ -29,6 +29,8 @@
 //! them with a book and with a pool.
 #![tactic(auto)]
 
+ghost use Rattle.std.specs.Prelude.{◌≡◌, ◌<◌, ◌≤◌, [], length};
+
 pub mod asking;
 pub mod blocks;
 pub mod cancels;
@@ -59,9 +61,12 @@ pub struct Row {
 /// How many topics there are.
 pub const TOPICS: u32 = 11;
 
-/// The rows of a topic, which are numbered from 0; of none past the last. No contract tells which rows they are, so a test that goes
-/// over them is proved as for any rows.
-pub fn topic(number: u32) -> &'static [Row] {
+/// The rows of a topic, which are numbered from 0: at least one of each, and none past the last. No contract tells which rows they
+/// are, so a test that goes over them is proved as for any rows.
+pub fn topic(number: u32) -> &'static [Row]
+    ensures some { number < TOPICS → 0 < length result.now }
+    ensures past { TOPICS ≤ number → result.now ≡ [] }
+{
     match number {
         0 => runs::all(),
         1 => cancels::all(),

@@ -1,4 +1,6 @@
 //! What comes of tasks once a policy is set.
+ghost use Rattle.std.specs.Prelude.{◌<◌, length};
+
 use crate::Row;
 
 /// The rows of this module.
@@ -19,7 +21,9 @@ const ALL: &[Row] = &[
 ];
 
 /// The rows of this module.
-pub fn all() -> &'static [Row] {
+pub fn all() -> &'static [Row]
+    ensures { 0 < length result.now }
+{
     ALL
 }
 

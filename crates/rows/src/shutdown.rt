@@ -1,4 +1,6 @@
 //! What comes of tasks once the executor is shut.
+ghost use Rattle.std.specs.Prelude.{◌<◌, length};
+
 use crate::Row;
 
 /// The rows of this module.
@@ -13,7 +15,9 @@ const ALL: &[Row] = &[
 ];
 
 /// The rows of this module.
-pub fn all() -> &'static [Row] {
+pub fn all() -> &'static [Row]
+    ensures { 0 < length result.now }
+{
     ALL
 }
 

@@ -1,4 +1,6 @@
 //! Times in each unit, and the greatest ones.
+ghost use Rattle.std.specs.Prelude.{◌<◌, length};
+
 use crate::Row;
 
 /// The rows of this module.
@@ -11,7 +13,9 @@ const ALL: &[Row] = &[
 ];
 
 /// The rows of this module.
-pub fn all() -> &'static [Row] {
+pub fn all() -> &'static [Row]
+    ensures { 0 < length result.now }
+{
     ALL
 }
 

@@ -126,18 +126,19 @@ impl<A: Allocator> Draft<A> {
         ensures counts { CountsTries result (W.failed writer.old) (W.fruitless writer.old)
             (W.failed writer.new) (W.fruitless writer.new) }
     {
-        for line in lines {
-            if !self.make_room(writer) {
-                return false;
-            }
-            self.put(line);
+        let [line] = lines else {
+            return self.give_many(lines, writer);
+        };
+        if !self.make_room(writer) {
+            return false;
         }
+        self.put(line);
         true
     }
 
     /// As [`Draft::give_lines`], for many lines: a line takes fewer steps, and the loop more bytes of
     /// code.
-    #[inline]
+    #[inline(never)]
     pub fn give_many<W: Sink>(&mut self, lines: &[Line], writer: &mut W) -> bool
         ensures text { GivesText result
             (record { contents = W.contents writer.old; text = self.old })

@@ -33,8 +33,8 @@ pub fn split_line(bytes: &[u8]) -> Option<(Line, &[u8])>
     split_one::<false>(bytes)
 }
 
-/// As [`split_line`]: compiled once for it, and once for [`read_line`]. So it stands in the loop of a program that reads many lines
-/// in one loop; what a line says is read by a call from there.
+/// As [`split_line`]: compiled once for it, and once for [`read_line`], with all that it calls. So it stands in the loop of a program
+/// that reads many lines in one loop.
 #[inline]
 fn split_one<const ALONE: bool>(bytes: &[u8]) -> Option<(Line, &[u8])>
     ensures { MatchOption result (IsUnread line_text FitsLine bytes.now)
@@ -43,7 +43,7 @@ fn split_one<const ALONE: bool>(bytes: &[u8]) -> Option<(Line, &[u8])>
     let Some((moment, rest)) = split_number_by_loop(bytes) else {
         return None;
     };
-    let Some((said, rest)) = split_message(rest) else {
+    let Some((said, rest)) = split_message::<ALONE>(rest) else {
         return None;
     };
     Some((Line::saying(moment, said), rest))

@@ -13,9 +13,10 @@ use crate::words::split_error;
 use executor_core::Said;
 
 /// What a line says whose text behind its moment stands at the front of some bytes, and what follows its newline. The words that
-/// stand in a trace most often are looked for first.
+/// stand in a trace most often are looked for first. It is compiled once for each reader of lines, so that it stands in the loop of
+/// a program that reads many.
 #[inline(always)]
-pub fn split_message(bytes: &[u8]) -> Option<(Said, &[u8])>
+pub fn split_message<const ALONE: bool>(bytes: &[u8]) -> Option<(Said, &[u8])>
     ensures { MatchOption result (IsUnread message_text FitsMessage bytes.now)
         (λ r. IsRead message_text FitsMessage bytes.now (message_of r.0) r.1.now) }
 {
