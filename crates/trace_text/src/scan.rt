@@ -14,48 +14,28 @@ pub fn strip<'a>(bytes: &'a [u8], word: &[u8]) -> Option<&'a [u8]>
     ensures { MatchOption result ((rest : List ℕ) → bytes.now ≢ word.now ++ rest)
         (λ rest. bytes.now ≡ word.now ++ rest.now) }
 {
-    if word.len() < 4 {
-        return strip_short(bytes, word);
-    }
-    strip_long(bytes, word)
-}
-
-/// As [`strip`], for a word of a few bytes: others cost a call.
-#[inline(always)]
-fn strip_short<'a>(bytes: &'a [u8], word: &[u8]) -> Option<&'a [u8]>
-    ensures { MatchOption result ((rest : List ℕ) → bytes.now ≢ word.now ++ rest)
-        (λ rest. bytes.now ≡ word.now ++ rest.now) }
-{
     bytes.strip_prefix(word)
 }
 
-/// As [`strip`], for a word of 4 bytes or more. Its first four are compared at once.
-#[inline(always)]
-fn strip_long<'a>(bytes: &'a [u8], word: &[u8]) -> Option<&'a [u8]>
-    requires { 4 ≤ length word.now }
-    ensures { MatchOption result ((rest : List ℕ) → bytes.now ≢ word.now ++ rest)
-        (λ rest. bytes.now ≡ word.now ++ rest.now) }
-{
-    if bytes.len() < word.len() {
-        return None;
-    }
-    if first_four(bytes) != first_four(word) {
-        return None;
-    }
-    let Some(rest) = strip_short(&bytes[4..], &word[4..]) else {
-        return None;
-    };
-    Some(rest)
-}
-
-/// As [`strip`], for a word of 4 bytes or more that is known when this is compiled.
+/// What follows `word`, of 4 bytes or more, at the front of `bytes`. `None` exactly when `bytes` does not begin with it. Its first
+/// four are compared at once.
 #[inline(always)]
 pub fn strip_word<const N: usize>(bytes: &[u8], word: [u8; N]) -> Option<&[u8]>
     requires { 4 ≤ N }
     ensures { MatchOption result ((rest : List ℕ) → bytes.now ≢ word.entry ++ rest)
         (λ rest. bytes.now ≡ word.entry ++ rest.now) }
 {
-    strip_long(bytes, &word)
+    if bytes.len() < N {
+        return None;
+    }
+    let word = &word[..];
+    if first_four(bytes) != first_four(word) {
+        return None;
+    }
+    let Some(rest) = strip(&bytes[4..], &word[4..]) else {
+        return None;
+    };
+    Some(rest)
 }
 
 /// The first four bytes, as one number.
