@@ -7,7 +7,7 @@ import pkgutil
 from recorded_timers import PYTHON
 
 TOP = PYTHON.parent.parent.parent
-PAGES = ["README.md", "docs/EMBEDDING.md"]
+PAGES = ["docs/EMBEDDING.md"]
 # What shows what it does by examples. What has the calls of a header alone, or only types, has
 # none.
 SHOWN = ["", "._numbers", ".delay_queue", ".errors", ".executor", ".scheduled_pool", ".timers",
