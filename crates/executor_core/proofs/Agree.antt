@@ -21,17 +21,14 @@ use Rattle.executor_core.specs.declared.task.Stage.TheVariants as ph
 use Rattle.executor_core.specs.declared.task.Task.{Task}
 use Rattle.queue_code.specs.Calls.{submits_task, Planned, terms_of, due_at, numbers, task_count}
 use Rattle.executor_core.specs.View.{first_enabled}
-use Rattle.executor_core.specs.Answers.{reply, bare, called, kind_of, start_answer, finish_answer, effect_on, Reply}
+use Rattle.executor_core.specs.Answers.{reply, bare, called, kind_of, start_answer, finish_answer, effect_on}
 use Rattle.executor_core.specs.Histories.{HistoryEntry, entry_of, happenings, IsHistoryOf, view_of_history, answer, cancels, is_shutdown}
-use Rattle.executor_core.specs.State.{State, view_of_state, next, after, opening, reply_of, move_task, submit_phase, finish_task, task_after}
+use Rattle.executor_core.specs.State.{State, view_of_state, next, after, opening, reply_of, move_task, submit_phase, finish_task}
 use Rattle.executor_core.specs.CoreView.{CoreView, workers_of, state_of}
 use Rattle.executor_core.specs.own.Invariants.{IsSound, IsDue, TimingsAgree, NoneDelayed, IsWellFormedCore}
-use Rattle.executor_core.specs.own.Sought.{Sought, OnlyThese}
 use Rattle.executor_core.proofs.Views.{seen_moves, look_moves, view_after, due_next_state}
 use Rattle.executor_core.proofs.Sound.{Finds, IsPeriodicAgain, reply_finds, fits_all}
 use Rattle.executor_core.proofs.SoundSteps.{sound_stays, later}
-use Rattle.executor_core.specs.own.Tables.{goes_on, is_live_phase, is_periodic}
-use Rattle.executor_core.proofs.Tables.{goes_parts, goes_from}
 use Rattle.executor_core.proofs.Replies.{IsAnswerTo, accepts_by, by_answer}
 
 -- a state shows what a history shows by counting, and is sound
@@ -200,12 +197,11 @@ shut_submits_none calls workers s (h.Cancel k) shut =
 -- what a step leaves true
 
 -- what stays true of a core whatever happens, but for its tables
-pub record StillTrue (n : CoreView) (sought : Sought) : Type 0 where
+pub record StillTrue (n : CoreView) (sought : Bool) : Type 0 where
   pub sound : IsSound (state_of n)
   pub due : IsDue n.calls (view_of_state n.calls (state_of n))
   pub timing : TimingsAgree n.calls (state_of n)
-  pub delayed : sought.delayed ≡ true → (n.shut ≡ true) × NoneDelayed (state_of n)
-  pub periodic : sought.periodic ≡ true → (n.shut ≡ true) × OnlyThese sought.going (state_of n)
+  pub delayed : sought ≡ true → (n.shut ≡ true) × NoneDelayed (state_of n)
 
 or_true : (p q : Bool) → q ≡ true → (p || q) ≡ true
 or_true true q e = refl
@@ -221,39 +217,8 @@ next_none_delayed calls workers s happening sound agree shut old = λ k q live o
       later s.moment (slice_get calls s.made) happening,
     )
 
--- a task that goes on after an answer which submits none went on before it
-goes_on_after : (calls : List Planned) (s : State) (r : Reply) → IsSound s → Finds calls s r.answer → SubmitsNone r.answer → (k : ℕ) → goes_on (task_after calls s r k) ≡ true → goes_on (s.tasks k) ≡ true
-goes_on_after calls s r sound f none k q =
-    let parts = goes_parts (task_by calls s r.answer k).phase (cancels k r.answer r.ends || (s.tasks k).cancelled) (task_by calls s r.answer k).timing q in
-    let before = by r.answer f none parts.0 parts.2 in
-    goes_from (s.tasks k).phase (s.tasks k).cancelled (s.tasks k).timing before.0 (no_or (cancels k r.answer r.ends) (s.tasks k).cancelled parts.1) before.1
-  where
-    start_answer : (b : Bool) (j : ℕ) → (j == k) ≡ b → (s.tasks j).phase ≡ ph.Waiting → (let x : Task = cond b (record (s.tasks k) { phase = ph.Running }) (s.tasks k) in
-        is_live_phase x.phase ≡ true → is_periodic x.timing ≡ true → (is_live_phase (s.tasks k).phase ≡ true) × (is_periodic (s.tasks k).timing ≡ true))
-    start_answer true j same waits live more = (ap is_live_phase (subst (λ i. (s.tasks i).phase ≡ ph.Waiting) (eqb-true j k same) waits), more)
-    start_answer false j apart waits live more = (live, more)
-
-    finish_answer : (outcome : Outcome) (b : Bool) (j : ℕ) → (j == k) ≡ b → (s.tasks j).phase ≡ ph.Running → (let x : Task = cond b (finish_task (terms_of calls k).timing s.moment outcome (s.tasks k)) (s.tasks k) in
-        is_live_phase x.phase ≡ true → is_periodic x.timing ≡ true → (is_live_phase (s.tasks k).phase ≡ true) × (is_periodic (s.tasks k).timing ≡ true))
-    finish_answer outcome true j same runs live more =
-        (ap is_live_phase (subst (λ i. (s.tasks i).phase ≡ ph.Running) (eqb-true j k same) runs), ap is_periodic (sym (finish_timing (terms_of calls k).timing s.moment outcome (s.tasks k))) ∙ more)
-    finish_answer outcome false j apart runs live more = (live, more)
-
-    by : (answer : Answer) → Finds calls s answer → SubmitsNone answer → is_live_phase (task_by calls s answer k).phase ≡ true → is_periodic (task_by calls s answer k).timing ≡ true →
-        (is_live_phase (s.tasks k).phase ≡ true) × (is_periodic (s.tasks k).timing ≡ true)
-    by (a.Submit j kind due) f none live more = absurd none
-    by (a.Start w j n due) f none live more = start_answer (j == k) j refl f.1 live more
-    by (a.Finish w j n outcome) f none live more = finish_answer outcome (j == k) j refl (sound.at_work w j f.0) live more
-    by _ f none live more = (live, more)
-
--- where only some periodic tasks go on, a step keeps it so
-next_only_these : (calls : List Planned) (workers : ℕ) (s : State) (happening : Happening) (going : List ℕ) → IsSound s → s.shut ≡ true → OnlyThese going s → OnlyThese going (next calls workers s happening)
-next_only_these calls workers s happening going sound shut old k q =
-    let r = reply_of calls workers s happening in
-    old k (goes_on_after calls s r sound (reply_finds calls workers s happening sound) (shut_submits_none calls workers s happening shut) k q)
-
 -- what is true of a core is so after a step
-pub still_true : (m n : CoreView) (entries keeps : List (Option ℕ)) (sought : Sought) (happening : Happening) → IsWellFormedCore m entries keeps sought → n.calls ≡ m.calls →
+pub still_true : (m n : CoreView) (entries keeps : List (Option ℕ)) (sought : Bool) (happening : Happening) → IsWellFormedCore m entries keeps sought → n.calls ≡ m.calls →
     state_of n ≡ next m.calls (workers_of m) (state_of m) happening → StillTrue n sought
 still_true m n entries keeps sought happening kept same step =
     let s = state_of m in
@@ -267,10 +232,5 @@ still_true m n entries keeps sought happening kept same step =
           let old = kept.delayed is in (
             ap (λ (t : State). t.shut) step ∙ or_true (is_shutdown r.answer) m.shut old.0,
             subst NoneDelayed (sym step) (next_none_delayed m.calls (workers_of m) s happening kept.sound kept.timing old.0 old.1),
-          );
-      periodic = λ is.
-          let old = kept.periodic is in (
-            ap (λ (t : State). t.shut) step ∙ or_true (is_shutdown r.answer) m.shut old.0,
-            subst (OnlyThese sought.going) (sym step) (next_only_these m.calls (workers_of m) s happening sought.going kept.sound old.0 old.1),
           );
     }

@@ -20,7 +20,6 @@ use Rattle.executor_core.specs.own.Tables.{one, is_running_phase, is_waiting_pha
 use Rattle.executor_core.specs.CoreView.{CoreView, state_of}
 use Rattle.executor_core.specs.own.Invariants.{queued, queued_phase, held, IsWellFormedCore}
 use Rattle.executor_core.specs.own.OwnSteps.{Takes}
-use Rattle.executor_core.specs.own.Sought.{Sought}
 use Rattle.executor_core.proofs.Flowing.{how_many-le}
 use Rattle.executor_core.proofs.Keeping.{kept_stays}
 use Rattle.executor_core.proofs.Calling.{called_state, passed, passed_steps}
@@ -148,7 +147,7 @@ two_queues (t ∷ tasks) gone =
 -- what an ask counts, and its step
 
 -- the entries of both queues are as many as the tasks that stand in the queue
-pub queue_counts : (m : CoreView) (entries keeps : List (Option ℕ)) (sought : Sought) → IsWellFormedCore m entries keeps sought →
+pub queue_counts : (m : CoreView) (entries keeps : List (Option ℕ)) (sought : Bool) → IsWellFormedCore m entries keeps sought →
     queues.entry_count entries + queues.entry_count keeps ≡ queue_size m.calls (view_of_state m.calls (state_of m))
 queue_counts m entries keeps sought kept =
     let v = view_of_state m.calls (state_of m) in
@@ -160,7 +159,7 @@ queue_counts m entries keeps sought kept =
     ∙ (sym seen ∙ ap (λ n. how_many (λ k. is_queued (v.fate k)) (range_with_len 0 n)) kept.count)))
 
 -- the tasks whose run is under way are as many as those that are seen to be run
-pub run_counts : (m : CoreView) (entries keeps : List (Option ℕ)) (sought : Sought) → IsWellFormedCore m entries keeps sought →
+pub run_counts : (m : CoreView) (entries keeps : List (Option ℕ)) (sought : Bool) → IsWellFormedCore m entries keeps sought →
     running_in m.tasks ≡ running_count m.calls (view_of_state m.calls (state_of m))
 run_counts m entries keeps sought kept =
     let v = view_of_state m.calls (state_of m) in
@@ -178,7 +177,7 @@ asked_state m at queue running shut terminated =
     }
 
 -- a core takes the step of a question, with the counts as the core has them
-pub ask_steps : (m old : CoreView) (entries keeps : List (Option ℕ)) (sought : Sought) (moment at queue running : ℕ) (terminated : Bool) → IsWellFormedCore m entries keeps sought →
+pub ask_steps : (m old : CoreView) (entries keeps : List (Option ℕ)) (sought : Bool) (moment at queue running : ℕ) (terminated : Bool) → IsWellFormedCore m entries keeps sought →
     slice_get m.calls m.made ≡ Some (at, c.Ask) → queue ≡ queues.entry_count entries + queues.entry_count keeps → running ≡ running_in m.tasks → terminated ≡ is_terminated m.shut queue running →
     moment ≡ max m.moment at → m ≡ old → Takes old (passed m moment) h.Call (a.Ask queue running m.shut terminated)
 ask_steps m old entries keeps sought moment at queue running terminated kept is stand run ends greatest same =
@@ -189,7 +188,7 @@ ask_steps m old entries keeps sought moment at queue running terminated kept is 
     (asked_state m at queue running m.shut terminated) greatest same
 
 -- the counts are small enough
-pub counts_within : (m : CoreView) (entries keeps : List (Option ℕ)) (sought : Sought) → IsWellFormedCore m entries keeps sought → (queues.entry_count entries + queues.entry_count keeps ≤ 65536) × (running_in m.tasks ≤ 65536)
+pub counts_within : (m : CoreView) (entries keeps : List (Option ℕ)) (sought : Bool) → IsWellFormedCore m entries keeps sought → (queues.entry_count entries + queues.entry_count keeps ≤ 65536) × (running_in m.tasks ≤ 65536)
 counts_within m entries keeps sought kept =
     let few : length m.tasks ≤ 65536 = omega (arith, kept.count, how_many-le (λ (p : Planned). submits_task p.1) m.calls, kept.orderly.0) in
     let all = (λ i. queues.entry_count (kept.queue i) + queues.entry_count (kept.keeping i)) ∙ ((λ i. count_entries queued m.tasks i + count_entries held m.tasks i) ∙ two_queues m.tasks (λ k held. (kept.sound.kept k held).1)) in

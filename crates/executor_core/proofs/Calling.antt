@@ -15,7 +15,6 @@ use Rattle.executor_core.specs.State.{State, view_of_state, next, reply_of, stat
 use Rattle.executor_core.specs.CoreView.{CoreView, workers_of, state_of}
 use Rattle.executor_core.specs.own.Invariants.{IsWellFormedCore}
 use Rattle.executor_core.specs.own.OwnSteps.{Takes}
-use Rattle.executor_core.specs.own.Sought.{Sought}
 use Rattle.executor_core.proofs.Tables.{call_moment, next_later, count_grows}
 
 -- what a call made at some moment looks at
@@ -55,7 +54,7 @@ pub called_at : (now at moment : ℕ) → now ≤ at → moment ≡ at → momen
 called_at now at moment ahead is = grind (arith, ahead, is)
 
 -- a core that made a call, at a moment that is not before it, stays well formed
-pub made_kept : (m : CoreView) (entries keeps : List (Option ℕ)) (sought : Sought) (moment at : ℕ) (call : CodeCall) (policies : Policies) (shut stopped : Bool) → IsWellFormedCore m entries keeps sought →
+pub made_kept : (m : CoreView) (entries keeps : List (Option ℕ)) (sought : Bool) (moment at : ℕ) (call : CodeCall) (policies : Policies) (shut stopped : Bool) → IsWellFormedCore m entries keeps sought →
     slice_get m.calls m.made ≡ Some (at, call) → moment ≡ max m.moment at → (m.shut ≡ true → shut ≡ true) →
     IsWellFormedCore (record m { made = m.made + 1; moment = moment; policies = policies; shut = shut; stopped = stopped }) entries keeps sought
 made_kept m entries keeps sought moment at call policies shut stopped kept is greatest shuts =
@@ -76,8 +75,6 @@ made_kept m entries keeps sought moment at call policies shut stopped kept is gr
       keeping = kept.keeping;
       timing = kept.timing;
       delayed = λ q. (shuts (kept.delayed q).0, λ k waits live once. omega (arith, (kept.delayed q).1 k waits live once, later));
-      periodic = λ q. (shuts (kept.periodic q).0, (kept.periodic q).1);
-      noted = kept.noted;
       fresh = λ k above.
           let more : task_count (take (m.made + 1) m.calls) ≡ task_count (take (suc m.made) m.calls) = ap (λ n. task_count (take n m.calls)) (add-one m.made) in
           kept.fresh k (omega (arith, above, more, count_grows m.calls m.made));
@@ -91,7 +88,7 @@ abbrev pub passed : CoreView → ℕ → CoreView
 passed m moment = record m { made = m.made + 1; moment = moment }
 
 -- a core stays well formed where its next call changes no task
-pub passed_kept : (m : CoreView) (entries keeps : List (Option ℕ)) (sought : Sought) (moment at : ℕ) (call : CodeCall) → IsWellFormedCore m entries keeps sought →
+pub passed_kept : (m : CoreView) (entries keeps : List (Option ℕ)) (sought : Bool) (moment at : ℕ) (call : CodeCall) → IsWellFormedCore m entries keeps sought →
     slice_get m.calls m.made ≡ Some (at, call) → moment ≡ max m.moment at → IsWellFormedCore (passed m moment) entries keeps sought
 passed_kept m entries keeps sought moment at call kept is greatest = made_kept m entries keeps sought moment at call m.policies m.shut m.stopped kept is greatest (λ q. q)
 

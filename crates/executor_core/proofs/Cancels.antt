@@ -26,11 +26,10 @@ use Rattle.executor_core.specs.own.Tables.{cancelled_task, is_waiting_phase}
 use Rattle.executor_core.specs.CoreView.{CoreView, workers_of, state_of}
 use Rattle.executor_core.specs.own.Invariants.{IsWellFormedCore, IsSound, queued, held}
 use Rattle.executor_core.specs.own.OwnSteps.{Takes}
-use Rattle.executor_core.specs.own.Sought.{Sought}
 use Rattle.executor_core.proofs.Agree.{still_true}
 use Rattle.executor_core.proofs.Sound.{is_seen_waiting}
 use Rattle.executor_core.proofs.Asking.{next_eqb, same_eqb, seen_waits}
-use Rattle.executor_core.proofs.Tables.{at_set, runs_set, vacant_stays, uncancelled_set, held_at, noted_at}
+use Rattle.executor_core.proofs.Tables.{at_set, runs_set, vacant_stays, uncancelled_set, held_at}
 use Rattle.executor_core.proofs.Calling.{kept_so, called_state, call_reply, call_state, passed}
 
 -- what a cancel does, by the phase of a task
@@ -197,7 +196,7 @@ outside_takes m k effect sound low count how =
     }
 
 -- what stays true after a cancel with an effect
-pub cancel_kept : (m : CoreView) (entries left keeps held_so : List (Option ℕ)) (sought : Sought) (k : ℕ) → IsWellFormedCore m entries keeps sought → k < length m.tasks →
+pub cancel_kept : (m : CoreView) (entries left keeps held_so : List (Option ℕ)) (sought : Bool) (k : ℕ) → IsWellFormedCore m entries keeps sought → k < length m.tasks →
     f.Yes ≡ effect_on (seen_task (terms_of m.calls k) (slice_index_or m.tasks k vacant)) → left ≡ set entries k None →
     held_so ≡ map held (set m.tasks k (cancelled_task m.policies.removes (slice_index_or m.tasks k vacant))) →
     IsWellFormedCore (with_tasks m (set m.tasks k (cancelled_task m.policies.removes (slice_index_or m.tasks k vacant)))) left held_so sought
@@ -219,8 +218,6 @@ cancel_kept m entries left keeps held_so sought k kept low live gone put =
       keeping = put;
       timing = still.timing;
       delayed = still.delayed;
-      periodic = still.periodic;
-      noted = noted_at sought _ _ _ _ (length-set m.tasks k over) refl kept.noted;
       fresh = vacant_stays m.tasks k _ over low (live_is_used (terms_of m.calls k) t live) kept.fresh;
       sound = still.sound;
       due = still.due;
@@ -264,7 +261,7 @@ staying_in removes tasks one two k low waits stays first then_so =
     ∙ (set-set tasks k gone (record gone { kept = true }) ∙ ap (set tasks k) (staying_is removes t waits stays))))
 
 -- a core whose table the code has written at a cancel, where the task is not kept, stays well formed
-pub leaving_kept : (m : CoreView) (entries left keeps : List (Option ℕ)) (sought : Sought) (k : ℕ) (tasks : List Task) → IsWellFormedCore m entries keeps sought → k < length m.tasks →
+pub leaving_kept : (m : CoreView) (entries left keeps : List (Option ℕ)) (sought : Bool) (k : ℕ) (tasks : List Task) → IsWellFormedCore m entries keeps sought → k < length m.tasks →
     f.Yes ≡ effect_on (seen_task (terms_of m.calls k) (slice_index_or m.tasks k vacant)) → left ≡ set entries k None → ((slice_index_or m.tasks k vacant).phase ≡ ph.Waiting → m.policies.removes ≡ true) →
     tasks ≡ set m.tasks k (record (slice_index_or m.tasks k vacant) { cancelled = true }) → IsWellFormedCore (with_tasks m tasks) left keeps sought
 leaving_kept m entries left keeps sought k tasks kept low live gone leaves written =
@@ -274,7 +271,7 @@ leaving_kept m entries left keeps sought k tasks kept low live gone leaves writt
     subst (λ l. IsWellFormedCore (with_tasks m l) left keeps sought) (sym (written ∙ ap (set m.tasks k) same)) (cancel_kept m entries left keeps keeps sought k kept low live gone stand)
 
 -- and where the task is kept
-pub staying_kept : (m : CoreView) (entries left keeps held_so : List (Option ℕ)) (sought : Sought) (k due : ℕ) (one tasks : List Task) → IsWellFormedCore m entries keeps sought → k < length m.tasks →
+pub staying_kept : (m : CoreView) (entries left keeps held_so : List (Option ℕ)) (sought : Bool) (k due : ℕ) (one tasks : List Task) → IsWellFormedCore m entries keeps sought → k < length m.tasks →
     f.Yes ≡ effect_on (seen_task (terms_of m.calls k) (slice_index_or m.tasks k vacant)) → left ≡ set entries k None → (slice_index_or m.tasks k vacant).phase ≡ ph.Waiting → m.policies.removes ≡ false →
     due ≡ (slice_index_or m.tasks k vacant).due → held_so ≡ set keeps k (Some due) →
     one ≡ set m.tasks k (record (slice_index_or m.tasks k vacant) { cancelled = true }) → tasks ≡ set one k (record (slice_index_or one k vacant) { kept = true }) → IsWellFormedCore (with_tasks m tasks) left held_so sought
@@ -285,7 +282,7 @@ staying_kept m entries left keeps held_so sought k due one tasks kept low live g
     subst (λ l. IsWellFormedCore (with_tasks m l) left held_so sought) (sym (staying_in m.policies.removes m.tasks one tasks k low waits stays first then_so)) (cancel_kept m entries left keeps held_so sought k kept low live gone stand)
 
 -- a task that is not cancelled has no entry among the kept ones
-pub unheld : (m : CoreView) (entries keeps : List (Option ℕ)) (sought : Sought) (k : ℕ) → IsWellFormedCore m entries keeps sought → (slice_index_or m.tasks k vacant).cancelled ≡ false → slice_index_or keeps k None ≡ None
+pub unheld : (m : CoreView) (entries keeps : List (Option ℕ)) (sought : Bool) (k : ℕ) → IsWellFormedCore m entries keeps sought → (slice_index_or m.tasks k vacant).cancelled ≡ false → slice_index_or keeps k None ≡ None
 unheld m entries keeps sought k kept live =
     let t = slice_index_or m.tasks k vacant in
     let loose : t.kept ≡ false = false_from_ne_true t.kept (λ q. absurd (false≢true (sym live ∙ (kept.sound.kept k q).1))) in

@@ -16,7 +16,6 @@ use Rattle.executor_core.specs.Foresight.{run_end, end_of_work, end_in}
 use Rattle.executor_core.specs.CoreView.{CoreView, workers_of, state_of}
 use Rattle.executor_core.specs.declared.types.Answer.TheVariants as a
 use Rattle.executor_core.specs.own.Invariants.{IsWellFormedCore}
-use Rattle.executor_core.specs.own.Sought.{Sought}
 use Rattle.executor_core.proofs.RunSteps.{Ran, finish_takes, finished_in}
 
 -- a worker with a task is one of the core
@@ -39,7 +38,7 @@ ran_as_told m w ending end = by (slice_index_or m.work w None) refl
         (record { worker = busy_within m.work w k is; busy = is; is = refl; out = refl; next = refl }, refl)
 
 -- and as it is answered
-pub finish_answers : (m : CoreView) (entries keeps : List (Option ℕ)) (sought : Sought) (w : ℕ) (ending : Ending) (end : RunEnd) → IsWellFormedCore m entries keeps sought →
+pub finish_answers : (m : CoreView) (entries keeps : List (Option ℕ)) (sought : Bool) (w : ℕ) (ending : Ending) (end : RunEnd) → IsWellFormedCore m entries keeps sought →
     Ran m w end.task ending end.outcome end.due (slice_index_or m.tasks end.task vacant) × (end.run ≡ (slice_index_or m.tasks end.task vacant).run) →
     (reply_of m.calls (workers_of m) (state_of m) (h.Finish w ending)).answer ≡ a.Finish w end.task end.run end.outcome
 finish_answers m entries keeps sought w ending end kept ran =

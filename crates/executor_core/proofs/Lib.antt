@@ -30,6 +30,5 @@ pub mod Within
 pub mod Sweeping
 pub mod Quieting
 pub mod WholeSweeps
-pub mod Noting
 pub mod SweepSteps
 pub mod SaidEquality

@@ -16,9 +16,7 @@ use Rattle.executor_core.specs.State.{State, vacant, view_of_state, seen_task}
 use Rattle.executor_core.specs.CoreView.{CoreView, state_of}
 use Rattle.executor_core.specs.own.Invariants.{IsWellFormedCore, IsSound, IsDue, held, queued}
 use Rattle.executor_core.specs.own.OwnSteps.{LeavesMet, is_met}
-use Rattle.executor_core.specs.own.Sought.{Sought}
-use Rattle.executor_core.proofs.Tables.{at_set, noted_at}
-use Rattle.executor_core.specs.own.Tables.{goes_on}
+use Rattle.executor_core.proofs.Tables.{at_set}
 
 -- the queue of kept tasks
 
@@ -114,7 +112,7 @@ pub fewer_apart : (m : CoreView) (tasks : List Task) → KeepsFewer m.tasks task
 fewer_apart m tasks few = record { moment = refl; workers = λ w. refl; tasks = few.each }
 
 -- dropping kept tasks keeps a core well formed
-pub fewer_keeps : (m : CoreView) (entries keeps left : List (Option ℕ)) (sought : Sought) (tasks : List Task) → IsWellFormedCore m entries keeps sought → KeepsFewer m.tasks tasks → left ≡ map held tasks →
+pub fewer_keeps : (m : CoreView) (entries keeps left : List (Option ℕ)) (sought : Bool) (tasks : List Task) → IsWellFormedCore m entries keeps sought → KeepsFewer m.tasks tasks → left ≡ map held tasks →
     IsWellFormedCore (record m { tasks = tasks }) entries left sought
 fewer_keeps m entries keeps left sought tasks kept few is =
     let apart = fewer_apart m tasks few in
@@ -131,8 +129,6 @@ fewer_keeps m entries keeps left sought tasks kept few is =
       keeping = is;
       timing = λ k used. ap (λ (t : Task). t.timing) (few.each k) ∙ kept.timing k (λ q. used (phase k ∙ q));
       delayed = λ q. ((kept.delayed q).0, λ k waits live once. omega (arith, due k, (kept.delayed q).1 k (sym (phase k) ∙ waits) (sym (cancelled k) ∙ live) (sym (timing k) ∙ once)));
-      periodic = λ q. ((kept.periodic q).0, λ k on. (kept.periodic q).1 k (sym (ap goes_on (few.each k)) ∙ on));
-      noted = noted_at sought _ _ _ _ few.size refl kept.noted;
       fresh = λ k above. few.each k ∙ fresh k above;
       sound = sound_apart (state_of m) (state_of (record m { tasks = tasks })) apart kept.sound (λ k q. kept.sound.kept k (few.fewer k q));
       due = due_apart m.calls (state_of m) (state_of (record m { tasks = tasks })) apart kept.due;

@@ -31,7 +31,6 @@ use Rattle.executor_core.specs.own.Tables.{waits_with}
 use Rattle.executor_core.specs.Needs.{need_of, need_of_answer, need_of_cancel, need_of_finish, IsRipe}
 use Rattle.executor_core.specs.CoreView.{CoreView, workers_of, state_of}
 use Rattle.executor_core.specs.own.Invariants.{IsWellFormedCore, queued_phase, held}
-use Rattle.executor_core.specs.own.Sought.{Sought}
 use Rattle.executor_core.proofs.Calling.{view_at}
 use Rattle.executor_core.proofs.Opens.{tells_none}
 use Rattle.executor_core.proofs.Flowing.{all_reached}
@@ -102,19 +101,19 @@ cancel_needs m old k effect same count low is =
 -- ---- what a start and a finish move
 
 -- a start that gets a task
-pub started_needs : (m old : CoreView) (entries keeps : List (Option ℕ)) (sought : Sought) (w : ℕ) (e : Entry) → m ≡ old → IsWellFormedCore m entries keeps sought → Gets m entries w e →
+pub started_needs : (m old : CoreView) (entries keeps : List (Option ℕ)) (sought : Bool) (w : ℕ) (e : Entry) → m ≡ old → IsWellFormedCore m entries keeps sought → Gets m entries w e →
     n.Start e.task ≡ need_of old.calls (workers_of old) (state_of old) (h.Start w)
 started_needs m old entries keeps sought w e same kept gets = needs_of m old (h.Start w) (n.Start e.task) same (start_needs m entries keeps sought w e kept gets)
 
 -- a start that gets none
-pub idle_needs : (m old : CoreView) (entries keeps : List (Option ℕ)) (sought : Sought) (w : ℕ) → m ≡ old → IsWellFormedCore m entries keeps sought → w < workers_of m → slice_index_or m.work w None ≡ None → NoneIsDue entries m.moment →
+pub idle_needs : (m old : CoreView) (entries keeps : List (Option ℕ)) (sought : Bool) (w : ℕ) → m ≡ old → IsWellFormedCore m entries keeps sought → w < workers_of m → slice_index_or m.work w None ≡ None → NoneIsDue entries m.moment →
     n.Nothing ≡ need_of old.calls (workers_of old) (state_of old) (h.Start w)
 idle_needs m old entries keeps sought w same kept l free none =
     let first = none_is_first m kept.sound (subst (λ q. NoneIsDue q m.moment) kept.queue none) in
     needs_of m old (h.Start w) n.Nothing same (ap (λ r. need_of_answer m.shut r.answer) (idle_starts m.calls (workers_of m) w (state_of m) l free first))
 
 -- a finish of a worker that works
-pub finished_needs : (m old : CoreView) (entries keeps : List (Option ℕ)) (sought : Sought) (w k : ℕ) (ending : Ending) (outcome : Outcome) (task : Task) (need : Need) → m ≡ old → IsWellFormedCore m entries keeps sought →
+pub finished_needs : (m old : CoreView) (entries keeps : List (Option ℕ)) (sought : Bool) (w k : ℕ) (ending : Ending) (outcome : Outcome) (task : Task) (need : Need) → m ≡ old → IsWellFormedCore m entries keeps sought →
     Ran m w k ending outcome (due_past task.timing task.due m.moment) task → need ≡ need_of_finish k outcome → need ≡ need_of old.calls (workers_of old) (state_of old) (h.Finish w ending)
 finished_needs m old entries keeps sought w k ending outcome task need same kept ran is =
     let due = due_past task.timing task.due m.moment in
@@ -160,7 +159,7 @@ either true b q = inl refl
 either false b q = inr q
 
 -- a task of the queue is ripe where its entry is due
-pub queue_ripe : (m old : CoreView) (entries keeps : List (Option ℕ)) (sought : Sought) (e : Entry) → m ≡ old → IsWellFormedCore m entries keeps sought → IsLeast entries e.due e.task → e.due ≤ m.moment →
+pub queue_ripe : (m old : CoreView) (entries keeps : List (Option ℕ)) (sought : Bool) (e : Entry) → m ≡ old → IsWellFormedCore m entries keeps sought → IsLeast entries e.due e.task → e.due ≤ m.moment →
     IsRipe old.calls (view_of_state old.calls (state_of old))
 queue_ripe m old entries keeps sought e same kept least due =
     let t = slice_index_or m.tasks e.task vacant in
@@ -180,7 +179,7 @@ held_is t d q = by t.kept refl q
     by false is q = absurd (none-some d q)
 
 -- a kept task is ripe where its entry is due
-pub kept_ripe : (m old : CoreView) (entries keeps : List (Option ℕ)) (sought : Sought) (e : Entry) → m ≡ old → IsWellFormedCore m entries keeps sought → IsLeast keeps e.due e.task → e.due ≤ m.moment →
+pub kept_ripe : (m old : CoreView) (entries keeps : List (Option ℕ)) (sought : Bool) (e : Entry) → m ≡ old → IsWellFormedCore m entries keeps sought → IsLeast keeps e.due e.task → e.due ≤ m.moment →
     IsRipe old.calls (view_of_state old.calls (state_of old))
 kept_ripe m old entries keeps sought e same kept least due =
     let t = slice_index_or m.tasks e.task vacant in
@@ -191,7 +190,7 @@ kept_ripe m old entries keeps sought e same kept least due =
     (e.task, ap (λ b. is_waiting (seen_task terms t) || b) here.0 ∙ or_right (is_waiting (seen_task terms t)), omega (arith, due, here.1, ap (λ p. due_seen terms p t.due) waits.0))
 
 -- where no entry is due, no task is ripe
-pub none_ripe : (m old : CoreView) (entries keeps : List (Option ℕ)) (sought : Sought) → m ≡ old → IsWellFormedCore m entries keeps sought → NoneIsDue entries m.moment → NoneIsDue keeps m.moment →
+pub none_ripe : (m old : CoreView) (entries keeps : List (Option ℕ)) (sought : Bool) → m ≡ old → IsWellFormedCore m entries keeps sought → NoneIsDue entries m.moment → NoneIsDue keeps m.moment →
     IsRipe old.calls (view_of_state old.calls (state_of old)) → ⊥
 none_ripe m old entries keeps sought same kept none unkept ripe =
     let (k, stands, due) = subst (λ (x : CoreView). IsRipe x.calls (view_of_state x.calls (state_of x))) (sym same) ripe in
@@ -210,7 +209,7 @@ none_ripe m old entries keeps sought same kept none unkept ripe =
 -- ---- which tasks a call ends
 
 -- a sweep ends a task where it waits and the policies do not let it run
-pub tests_so : (m old : CoreView) (entries keeps : List (Option ℕ)) (sought : Sought) (k now : ℕ) (stopped : Bool) (policies : Policies) (b : Bool) → m ≡ old → IsWellFormedCore m entries keeps sought →
+pub tests_so : (m old : CoreView) (entries keeps : List (Option ℕ)) (sought : Bool) (k now : ℕ) (stopped : Bool) (policies : Policies) (b : Bool) → m ≡ old → IsWellFormedCore m entries keeps sought →
     b ≡ (waits_with (slice_index_or m.tasks k vacant) && is_ended_by stopped policies now (slice_index_or m.tasks k vacant).timing (slice_index_or m.tasks k vacant).due) →
     b ≡ is_swept old.calls (record (view_of_state old.calls (state_of old)) { moment = now; stopped = stopped }) policies k
 tests_so m old entries keeps sought k now stopped policies b same kept is =
@@ -218,7 +217,7 @@ tests_so m old entries keeps sought k now stopped policies b same kept is =
     ∙ ap (λ (x : CoreView). is_swept x.calls (record (view_of_state x.calls (state_of x)) { moment = now; stopped = stopped }) policies k) same)
 
 -- and then it is one of those that the sweep ends
-pub ends_so : (m old : CoreView) (entries keeps : List (Option ℕ)) (sought : Sought) (k now : ℕ) (stopped : Bool) (policies : Policies) (b : Bool) → m ≡ old → IsWellFormedCore m entries keeps sought →
+pub ends_so : (m old : CoreView) (entries keeps : List (Option ℕ)) (sought : Bool) (k now : ℕ) (stopped : Bool) (policies : Policies) (b : Bool) → m ≡ old → IsWellFormedCore m entries keeps sought →
     b ≡ (waits_with (slice_index_or m.tasks k vacant) && is_ended_by stopped policies now (slice_index_or m.tasks k vacant).timing (slice_index_or m.tasks k vacant).due) →
     b ≡ is_end k (swept old.calls (record (view_of_state old.calls (state_of old)) { moment = now; stopped = stopped }) policies)
 ends_so m old entries keeps sought k now stopped policies b same kept is =

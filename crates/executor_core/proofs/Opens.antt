@@ -1,5 +1,5 @@
 -- The core before anything happened, and which calls a moment reaches.
-use Rattle.std.proofs.Common.{zero, suc, ◌≡◌, ℕ, ◌+◌, ◌<◌, ◌≤◌, nat_le, true, false, cond, inl, inr, List, [], ◌∷◌, length, map, Option, Some, None, refl, sym, ap, ◌∙◌, arith, subst}
+use Rattle.std.proofs.Common.{zero, suc, ◌≡◌, ℕ, ◌+◌, ◌<◌, ◌≤◌, nat_le, Bool, true, false, cond, inl, inr, List, [], ◌∷◌, length, map, Option, Some, None, refl, sym, ap, ◌∙◌, arith, subst}
 use Rattle.std.specs.Prelude.{slice_get, slice_index_or, replicate, IsTrue}
 use Rattle.std.proofs.lemmas.Option.{none-some, slice_get_within, get_or_from_slice_get}
 use Rattle.std.proofs.lemmas.Bool.{false≢true, le-leb, leb-true, cases_lt}
@@ -14,10 +14,8 @@ use Rattle.sched_time.specs.Policies.{default_policies}
 use Rattle.executor_core.specs.State.{opening, vacant, view_of_state}
 use Rattle.executor_core.specs.CoreView.{CoreView, state_of, IsOpening}
 use Rattle.executor_core.specs.own.Invariants.{IsWellFormedCore, IsSound, IsDue, queued, held}
-use Rattle.executor_core.specs.own.Sought.{Sought}
 use Rattle.executor_core.proofs.Agree.{opening_sound}
 use Rattle.executor_core.proofs.Tables.{at_replicate}
-use Rattle.executor_core.specs.Histories.{is_end}
 
 -- vacant tasks stand in no queue
 
@@ -48,11 +46,11 @@ opening_is calls count workers limit tasks work policies is free unset = record 
 }
 
 -- a core that was just made is well formed
-pub opening_kept : (calls : List Planned) (count workers limit : ℕ) (tasks : List Task) (work entries keeps : List (Option ℕ)) (policies : Policies) (sought : Sought) → IsPlanned calls → count ≡ task_count calls → 0 < workers → workers ≤ 64 →
+pub opening_kept : (calls : List Planned) (count workers limit : ℕ) (tasks : List Task) (work entries keeps : List (Option ℕ)) (policies : Policies) (sought : Bool) → IsPlanned calls → count ≡ task_count calls → 0 < workers → workers ≤ 64 →
     tasks ≡ replicate count vacant → work ≡ replicate workers None → entries ≡ replicate count None → keeps ≡ replicate count None → policies ≡ default_policies →
-    sought.delayed ≡ false → sought.periodic ≡ false → sought.going ≡ [] → workers ≤ sought.room →
+    sought ≡ false →
     IsWellFormedCore (opening_machine calls limit tasks work policies) entries keeps sought
-opening_kept calls count workers limit tasks work entries keeps policies sought orderly counted some few is free empty unkept unset undelayed unended going room =
+opening_kept calls count workers limit tasks work entries keeps policies sought orderly counted some few is free empty unkept unset undelayed =
     let long : length work ≡ workers = ap length free ∙ length-replicate workers None in
     let at : (k : ℕ) → slice_index_or tasks k vacant ≡ vacant = λ k. ap (λ l. slice_index_or l k vacant) is ∙ at_replicate count k vacant in
     let state = opening_state calls count workers limit tasks work policies is free unset in
@@ -72,14 +70,6 @@ opening_kept calls count workers limit tasks work entries keeps policies sought 
       sound = subst IsSound (sym state) opening_sound;
       due = subst (λ s. IsDue calls (view_of_state calls s)) (sym state) (λ k. (None, refl));
       delayed = λ q. absurd (false≢true (sym undelayed ∙ q));
-      periodic = λ q. absurd (false≢true (sym unended ∙ q));
-      noted = record {
-        ascending = λ i j d le within. absurd (omega (arith, within, ap length going));
-        below = λ k is. absurd (false≢true (ap (is_end k) (sym going) ∙ is));
-        few = omega (arith, ap length going);
-        room = omega (arith, long, room);
-        none = λ q. going;
-      };
       runs = record {
         all = λ k. omega (arith, ap (λ (x : Task). x.run) (at k));
         begun = λ k q. let none : ph.Vacant ≡ ph.Running = sym (ap (λ (x : Task). x.phase) (at k)) ∙ q in absurd cc;

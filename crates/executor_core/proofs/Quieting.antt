@@ -9,12 +9,11 @@ use Rattle.delay_queue.specs.Queues.{IsEmpty}
 use Rattle.executor_core.specs.declared.task.Task.{Task}
 use Rattle.queue_code.specs.Calls.{terms_of, due_at}
 use Rattle.executor_core.specs.State.{vacant, seen_task}
-use Rattle.executor_core.specs.own.Tables.{waits_with, is_periodic, goes_on, is_live_phase}
+use Rattle.executor_core.specs.own.Tables.{waits_with}
 use Rattle.executor_core.specs.CoreView.{CoreView}
 use Rattle.executor_core.specs.own.Invariants.{IsWellFormedCore, queued, held}
 use Rattle.executor_core.specs.own.OwnSteps.{Drops}
-use Rattle.executor_core.specs.own.Sought.{Sought}
-use Rattle.executor_core.proofs.Tables.{at_set, queued_at, held_at, noted_at, goes_parts, goes_from}
+use Rattle.executor_core.proofs.Tables.{at_set, queued_at, held_at}
 
 -- tasks that are cancelled, or kept no more
 
@@ -44,17 +43,8 @@ quieter_set tasks k t low one = record {
     by true j same = subst (λ i. IsQuieter (slice_index_or tasks i vacant) t) (eqb-true k j same) one
     by false j apart = quiet (slice_index_or tasks j vacant)
 
--- what goes on went on before
-quieter_goes : (before after : Task) → IsQuieter before after → goes_on after ≡ true → goes_on before ≡ true
-quieter_goes before after quieter on =
-    let parts = goes_parts after.phase after.cancelled after.timing on in
-    goes_from before.phase before.cancelled before.timing
-    (sym (ap (λ (t : Task). is_live_phase t.phase) quieter.same) ∙ parts.0)
-    (false_from_ne_true before.cancelled (λ is. false≢true (sym parts.1 ∙ quieter.cancelled is)))
-    (sym (ap (λ (t : Task). is_periodic t.timing) quieter.same) ∙ parts.2)
-
 -- a core with such tasks stays well formed, where its queues are those of the tasks
-pub quieter_kept : (m : CoreView) (entries keeps entries' keeps' : List (Option ℕ)) (sought : Sought) (tasks : List Task) → IsWellFormedCore m entries keeps sought → AreQuieter m.tasks tasks → entries' ≡ map queued tasks → keeps' ≡ map held tasks →
+pub quieter_kept : (m : CoreView) (entries keeps entries' keeps' : List (Option ℕ)) (sought : Bool) (tasks : List Task) → IsWellFormedCore m entries keeps sought → AreQuieter m.tasks tasks → entries' ≡ map queued tasks → keeps' ≡ map held tasks →
     IsWellFormedCore (record m { tasks = tasks }) entries' keeps' sought
 quieter_kept m entries keeps entries' keeps' sought tasks kept quieter queue keeping =
     let phase : (k : ℕ) → (slice_index_or tasks k vacant).phase ≡ (slice_index_or m.tasks k vacant).phase = λ k. ap (λ (t : Task). t.phase) (quieter.each k).same in
@@ -80,8 +70,6 @@ quieter_kept m entries keeps entries' keeps' sought tasks kept quieter queue kee
                 let was : (slice_index_or m.tasks k vacant).cancelled ≡ false = false_from_ne_true _ (λ is. false≢true (sym live ∙ (quieter.each k).cancelled is)) in
                 omega (arith, due k, none k (sym (phase k) ∙ waits) was (sym (timing k) ∙ once)),
           );
-      periodic = λ q. ((kept.periodic q).0, λ k on. (kept.periodic q).1 k (quieter_goes _ _ (quieter.each k) on));
-      noted = noted_at sought _ _ _ _ quieter.size refl kept.noted;
       fresh = λ k above. (quieter.each k).fresh (kept.fresh k above);
       sound = record {
         at_work = λ w k busy. phase k ∙ kept.sound.at_work w k busy;
@@ -106,7 +94,7 @@ ends_quietly t waits = record {
 }
 
 -- the core stays well formed where a task that waits is ended
-pub end_kept : (m : CoreView) (entries left keeps : List (Option ℕ)) (sought : Sought) (k : ℕ) (tasks : List Task) → IsWellFormedCore m entries keeps sought → k < length m.tasks →
+pub end_kept : (m : CoreView) (entries left keeps : List (Option ℕ)) (sought : Bool) (k : ℕ) (tasks : List Task) → IsWellFormedCore m entries keeps sought → k < length m.tasks →
     waits_with (slice_index_or m.tasks k vacant) ≡ true → left ≡ set entries k None → tasks ≡ set m.tasks k (record (slice_index_or m.tasks k vacant) { cancelled = true }) →
     IsWellFormedCore (record m { tasks = tasks }) left keeps sought
 end_kept m entries left keeps sought k tasks kept low waits gone is =
@@ -169,7 +157,7 @@ dropped_quietly before after dropped = record {
 }
 
 -- the core stays well formed where tasks are kept no more
-pub dropped_kept : (m cur : CoreView) (entries entries' keeps keeps' : List (Option ℕ)) (sought sought' : Sought) → IsWellFormedCore m entries keeps sought → cur ≡ record m { tasks = cur.tasks } → entries' ≡ entries → sought' ≡ sought →
+pub dropped_kept : (m cur : CoreView) (entries entries' keeps keeps' : List (Option ℕ)) (sought sought' : Bool) → IsWellFormedCore m entries keeps sought → cur ≡ record m { tasks = cur.tasks } → entries' ≡ entries → sought' ≡ sought →
     AreDropped m.tasks cur.tasks → keeps' ≡ map held cur.tasks → IsWellFormedCore cur entries' keeps' sought'
 dropped_kept m cur entries entries' keeps keeps' sought sought' kept rest same_entries same_sought dropped keeping =
     let whole = quieter_kept m entries keeps entries keeps' sought cur.tasks kept (record { size = dropped.size; each = λ k. dropped_quietly _ _ (dropped.each k) }) (kept.queue ∙ same_queued m.tasks cur.tasks dropped) keeping in

@@ -1,5 +1,5 @@
 -- What stays true of a core over a start and a finish, and the steps that these are.
-use Rattle.std.proofs.Common.{zero, suc, take, ◌≡◌, ◌≢◌, ℕ, ◌<◌, ◌≤◌, ◌==◌, ◌&&◌, Bool, true, false, cond, List, [], ◌∷◌, length, map, inl, inr, Option, Some, None, refl, sym, ap, ◌∙◌, arith, subst}
+use Rattle.std.proofs.Common.{zero, suc, take, ◌≡◌, ◌≢◌, ℕ, ◌<◌, ◌≤◌, ◌==◌, Bool, true, false, cond, List, [], ◌∷◌, length, map, inl, inr, Option, Some, None, refl, sym, ap, ◌∙◌, arith, subst}
 use Rattle.std.specs.Prelude.{slice_index_or, not}
 use Rattle.std.proofs.Math.ListN.{set}
 use Rattle.std.proofs.lemmas.Bool.{false≢true, eqb-true, cases_Bool}
@@ -28,12 +28,10 @@ use Rattle.executor_core.specs.State.{vacant, view_of_state, reply_of, state_aft
 use Rattle.executor_core.specs.CoreView.{CoreView, workers_of, state_of}
 use Rattle.executor_core.specs.own.Invariants.{IsWellFormedCore, IsSound, IsDue, queued, queued_phase, held}
 use Rattle.executor_core.specs.own.OwnSteps.{Takes, LeavesMet, queued_again, finished_task}
-use Rattle.executor_core.specs.own.Sought.{Sought}
 use Rattle.executor_core.proofs.Agree.{next_sound, next_due_is, still_true}
-use Rattle.executor_core.proofs.Tables.{at_set, runs_set, noted_at}
+use Rattle.executor_core.proofs.Tables.{at_set, runs_set}
 use Rattle.executor_core.proofs.Meeting.{sound_apart, due_apart}
 use Rattle.executor_core.proofs.WorkerSteps.{queued_at, by_reply, in_queue, entry_within, idle_starts, task_starts, none_is_first, running, idle_state, started_task, started_apart, start_state, end_keeps, task_finishes, finish_state}
-use Rattle.executor_core.specs.own.Tables.{goes_on, is_live_phase, is_periodic}
 
 -- a step from what is seen of a core is one from the core
 pub of_view : (m old new : CoreView) (happening : Happening) (answer : Answer) → m ≡ old → Takes m new happening answer → Takes old new happening answer
@@ -46,7 +44,7 @@ pub unqueued : (entries : List (Option ℕ)) (tasks : List Task) (k : ℕ) (task
 unqueued entries tasks k task q none = ap (λ l. set l k None) q ∙ (ap (λ e. set (map queued tasks) k e) (sym none) ∙ sym (map-set queued tasks k task))
 
 -- each task has the timing of its terms, where one that was submitted is written and keeps its own
-timing_stays : (m : CoreView) (entries keeps : List (Option ℕ)) (sought : Sought) (k : ℕ) (task : Task) → IsWellFormedCore m entries keeps sought → k < length m.tasks → (slice_index_or m.tasks k vacant).phase ≢ ph.Vacant →
+timing_stays : (m : CoreView) (entries keeps : List (Option ℕ)) (sought : Bool) (k : ℕ) (task : Task) → IsWellFormedCore m entries keeps sought → k < length m.tasks → (slice_index_or m.tasks k vacant).phase ≢ ph.Vacant →
     task.timing ≡ (slice_index_or m.tasks k vacant).timing → (j : ℕ) → (slice_index_or (set m.tasks k task) j vacant).phase ≢ ph.Vacant → (slice_index_or (set m.tasks k task) j vacant).timing ≡ (terms_of m.calls j).timing
 timing_stays m entries keeps sought k task kept low busy same j =
     subst (λ (x : Task). x.phase ≢ ph.Vacant → x.timing ≡ (terms_of m.calls j).timing) (sym (at_set m.tasks k j task vacant low)) (by (k == j) refl)
@@ -56,7 +54,7 @@ timing_stays m entries keeps sought k task kept low busy same j =
     by false apart used = kept.timing j used
 
 -- what no call submitted stays vacant where a task that was submitted is written
-pub fresh_stays : (m : CoreView) (entries keeps : List (Option ℕ)) (sought : Sought) (k : ℕ) (task : Task) → IsWellFormedCore m entries keeps sought → k < length m.tasks → (slice_index_or m.tasks k vacant).phase ≢ ph.Vacant →
+pub fresh_stays : (m : CoreView) (entries keeps : List (Option ℕ)) (sought : Bool) (k : ℕ) (task : Task) → IsWellFormedCore m entries keeps sought → k < length m.tasks → (slice_index_or m.tasks k vacant).phase ≢ ph.Vacant →
     (j : ℕ) → task_count (take m.made m.calls) ≤ j → slice_index_or (set m.tasks k task) j vacant ≡ vacant
 fresh_stays m entries keeps sought k task kept low busy j above = at_set m.tasks k j task vacant low ∙ by (k == j) refl
   where
@@ -79,16 +77,16 @@ with_tasks m tasks = record m { tasks = tasks }
 -- a start
 
 -- the least entry of the queue has its place in the tables
-pub least_within : (m : CoreView) (entries keeps : List (Option ℕ)) (sought : Sought) (k d : ℕ) → IsWellFormedCore m entries keeps sought → queues.IsLeast entries d k → k < length m.tasks
+pub least_within : (m : CoreView) (entries keeps : List (Option ℕ)) (sought : Bool) (k d : ℕ) → IsWellFormedCore m entries keeps sought → queues.IsLeast entries d k → k < length m.tasks
 least_within m entries keeps sought k d kept least = entry_within m.tasks k d (subst (λ q. queues.IsLeast q d k) kept.queue least).there
 
 -- the least entry of the queue is that of a task that waits
-pub least_waits : (m : CoreView) (entries keeps : List (Option ℕ)) (sought : Sought) (k d : ℕ) → IsWellFormedCore m entries keeps sought → queues.IsLeast entries d k →
+pub least_waits : (m : CoreView) (entries keeps : List (Option ℕ)) (sought : Bool) (k d : ℕ) → IsWellFormedCore m entries keeps sought → queues.IsLeast entries d k →
     ((slice_index_or m.tasks k vacant).phase ≡ ph.Waiting) × ((slice_index_or m.tasks k vacant).due ≡ d) × ((slice_index_or m.tasks k vacant).cancelled ≡ false)
 least_waits m entries keeps sought k d kept least = in_queue m.tasks k d (subst (λ q. queues.IsLeast q d k) kept.queue least).there
 
 -- a core takes the step of a start that gets no task
-pub start_idles : (m new : CoreView) (entries keeps : List (Option ℕ)) (sought : Sought) (w : ℕ) → IsWellFormedCore m entries keeps sought → w < workers_of m → slice_index_or m.work w None ≡ None →
+pub start_idles : (m new : CoreView) (entries keeps : List (Option ℕ)) (sought : Bool) (w : ℕ) → IsWellFormedCore m entries keeps sought → w < workers_of m → slice_index_or m.work w None ≡ None →
     queues.NoneIsDue entries m.moment → new ≡ with_tasks m new.tasks → LeavesMet m.moment None m.tasks new.tasks → Takes m new (h.Start w) (a.Idle w)
 start_idles m new entries keeps sought w kept l free none rest left =
     let reply = idle_starts m.calls (workers_of m) w (state_of m) l free (none_is_first m kept.sound (subst (λ q. queues.NoneIsDue q m.moment) kept.queue none)) in
@@ -117,17 +115,17 @@ pub record Gets (m : CoreView) (entries : List (Option ℕ)) (w : ℕ) (e : Entr
   pub due : e.due ≤ m.moment
 
 -- the reply to a start that gets a task
-start_reply : (m : CoreView) (entries keeps : List (Option ℕ)) (sought : Sought) (w : ℕ) (e : Entry) → IsWellFormedCore m entries keeps sought → Gets m entries w e →
+start_reply : (m : CoreView) (entries keeps : List (Option ℕ)) (sought : Bool) (w : ℕ) (e : Entry) → IsWellFormedCore m entries keeps sought → Gets m entries w e →
     reply_of m.calls (workers_of m) (state_of m) (h.Start w) ≡ bare (a.Start w e.task (slice_index_or m.tasks e.task vacant).run e.due)
 start_reply m entries keeps sought w e kept gets = task_starts m w e.task e.due gets.worker gets.free kept.sound kept.count (subst (λ q. queues.IsLeast q e.due e.task) kept.queue gets.least) gets.due
 
 -- and what it moves
-pub start_needs : (m : CoreView) (entries keeps : List (Option ℕ)) (sought : Sought) (w : ℕ) (e : Entry) → IsWellFormedCore m entries keeps sought → Gets m entries w e →
+pub start_needs : (m : CoreView) (entries keeps : List (Option ℕ)) (sought : Bool) (w : ℕ) (e : Entry) → IsWellFormedCore m entries keeps sought → Gets m entries w e →
     need_of m.calls (workers_of m) (state_of m) (h.Start w) ≡ n.Start e.task
 start_needs m entries keeps sought w e kept gets = ap (λ r. need_of_answer m.shut r.answer) (start_reply m entries keeps sought w e kept gets)
 
 -- a core takes the step of a start that gets a task
-pub start_takes : (m new : CoreView) (entries keeps : List (Option ℕ)) (sought : Sought) (w n : ℕ) (e : Entry) (tasks : List Task) → IsWellFormedCore m entries keeps sought → Gets m entries w e →
+pub start_takes : (m new : CoreView) (entries keeps : List (Option ℕ)) (sought : Bool) (w n : ℕ) (e : Entry) (tasks : List Task) → IsWellFormedCore m entries keeps sought → Gets m entries w e →
     tasks ≡ started_in m e.task → n ≡ (slice_index_or m.tasks e.task vacant).run → new ≡ started m w e.task new.tasks → LeavesMet m.moment (Some e) tasks new.tasks → Takes m new (h.Start w) (a.Start w e.task n e.due)
 start_takes m new entries keeps sought w n e tasks kept gets written run rest left =
     let low = least_within m entries keeps sought e.task e.due kept gets.least in
@@ -164,17 +162,8 @@ started_delayed m k j low old =
     by true waits live once = absurd cc
     by false waits live once = old waits live once
 
--- what goes on after a start went on before it
-started_goes : (m : CoreView) (k j : ℕ) → k < length m.tasks → (slice_index_or m.tasks k vacant).phase ≡ ph.Waiting → goes_on (slice_index_or (started_in m k) j vacant) ≡ true → goes_on (slice_index_or m.tasks j vacant) ≡ true
-started_goes m k j low waits on = by (k == j) refl (sym (ap goes_on (at_set m.tasks k j (running (slice_index_or m.tasks k vacant)) vacant low)) ∙ on)
-  where
-    by : (b : Bool) → (k == j) ≡ b → goes_on (cond b (running (slice_index_or m.tasks k vacant)) (slice_index_or m.tasks j vacant)) ≡ true → goes_on (slice_index_or m.tasks j vacant) ≡ true
-    by true same on = subst (λ i. goes_on (slice_index_or m.tasks i vacant) ≡ true) (eqb-true k j same)
-        ((λ i. is_live_phase (waits i) && (not (slice_index_or m.tasks k vacant).cancelled && is_periodic (slice_index_or m.tasks k vacant).timing)) ∙ on)
-    by false apart on = on
-
 -- a core stays well formed where a worker starts a task, and no kept task has left yet
-start_kept : (m : CoreView) (entries keeps : List (Option ℕ)) (sought : Sought) (w : ℕ) (e : Entry) → IsWellFormedCore m entries keeps sought → Gets m entries w e → (slice_index_or m.tasks e.task vacant).run < m.taken →
+start_kept : (m : CoreView) (entries keeps : List (Option ℕ)) (sought : Bool) (w : ℕ) (e : Entry) → IsWellFormedCore m entries keeps sought → Gets m entries w e → (slice_index_or m.tasks e.task vacant).run < m.taken →
     IsWellFormedCore (started m w e.task (started_in m e.task)) (set entries e.task None) keeps sought
 start_kept m entries keeps sought w e kept gets counted =
     let k = e.task in
@@ -201,8 +190,6 @@ start_kept m entries keeps sought w e kept gets counted =
       keeping = kept.keeping ∙ sym (map-set_same held m.tasks k (running task) vacant refl);
       timing = timing_stays m entries keeps sought k (running task) kept low used refl;
       delayed = λ q. ((kept.delayed q).0, λ j. started_delayed m k j low ((kept.delayed q).1 j));
-      periodic = λ q. ((kept.periodic q).0, λ j on. (kept.periodic q).1 j (started_goes m k j low waits.0 on));
-      noted = noted_at sought _ _ _ _ (length-set m.tasks k (running task)) (length-set m.work w (Some k)) kept.noted;
       fresh = fresh_stays m entries keeps sought k (running task) kept low used;
       sound = sound_apart after new apart (subst (λ r. IsSound (state_after m.calls s (h.Start w) r)) reply (next_sound m.calls (workers_of m) s (h.Start w) kept.sound))
           (λ j. started_kept m w k task.run e.due j kept.sound low waits.2);
@@ -212,7 +199,7 @@ start_kept m entries keeps sought w e kept gets counted =
     }
 
 -- the same, with the tables as the calls leave them
-pub start_keeps : (m : CoreView) (entries keeps left : List (Option ℕ)) (sought : Sought) (w : ℕ) (e : Entry) (tasks : List Task) → IsWellFormedCore m entries keeps sought → Gets m entries w e → (slice_index_or m.tasks e.task vacant).run < m.taken →
+pub start_keeps : (m : CoreView) (entries keeps left : List (Option ℕ)) (sought : Bool) (w : ℕ) (e : Entry) (tasks : List Task) → IsWellFormedCore m entries keeps sought → Gets m entries w e → (slice_index_or m.tasks e.task vacant).run < m.taken →
     tasks ≡ started_in m e.task → left ≡ set entries e.task None → IsWellFormedCore (started m w e.task tasks) left keeps sought
 start_keeps m entries keeps left sought w e tasks kept gets counted written gone =
     subst (λ x. IsWellFormedCore (started m w e.task x) left keeps sought) (sym written)
@@ -224,7 +211,7 @@ start_keeps m entries keeps left sought w e tasks kept gets counted written gone
 abbrev pub finished : CoreView → ℕ → List Task → CoreView
 finished m w tasks = record m { tasks = tasks; work = set m.work w None }
 
-at_work : (m : CoreView) (entries keeps : List (Option ℕ)) (sought : Sought) (w k : ℕ) → IsWellFormedCore m entries keeps sought → slice_index_or m.work w None ≡ Some k → (slice_index_or m.tasks k vacant).phase ≡ ph.Running
+at_work : (m : CoreView) (entries keeps : List (Option ℕ)) (sought : Bool) (w k : ℕ) → IsWellFormedCore m entries keeps sought → slice_index_or m.work w None ≡ Some k → (slice_index_or m.tasks k vacant).phase ≡ ph.Running
 at_work m entries keeps sought w k kept busy = kept.sound.at_work w k busy
 
 known : (tasks : List Task) (k : ℕ) → (slice_index_or tasks k vacant).phase ≢ ph.Vacant → k < length tasks
@@ -233,20 +220,20 @@ known (x ∷ tasks) zero busy = omega arith
 known (x ∷ tasks) (suc k) busy = omega (arith, known tasks k busy)
 
 -- the task of a busy worker has its place in the tables
-pub work_within : (m : CoreView) (entries keeps : List (Option ℕ)) (sought : Sought) (w k : ℕ) → IsWellFormedCore m entries keeps sought → slice_index_or m.work w None ≡ Some k → k < length m.tasks
+pub work_within : (m : CoreView) (entries keeps : List (Option ℕ)) (sought : Bool) (w k : ℕ) → IsWellFormedCore m entries keeps sought → slice_index_or m.work w None ≡ Some k → k < length m.tasks
 work_within m entries keeps sought w k kept busy = known m.tasks k (not_vacant _ ph.Running (at_work m entries keeps sought w k kept busy) (λ q. cc))
 
 -- the timing of the task of a worker is that of its terms
-work_timing : (m : CoreView) (entries keeps : List (Option ℕ)) (sought : Sought) (w k : ℕ) → IsWellFormedCore m entries keeps sought → slice_index_or m.work w None ≡ Some k → (slice_index_or m.tasks k vacant).timing ≡ (terms_of m.calls k).timing
+work_timing : (m : CoreView) (entries keeps : List (Option ℕ)) (sought : Bool) (w k : ℕ) → IsWellFormedCore m entries keeps sought → slice_index_or m.work w None ≡ Some k → (slice_index_or m.tasks k vacant).timing ≡ (terms_of m.calls k).timing
 work_timing m entries keeps sought w k kept busy = kept.timing k (not_vacant _ ph.Running (at_work m entries keeps sought w k kept busy) (λ q. cc))
 
 -- a task whose run is under way does not stand in the queue
-pub run_unqueued : (m : CoreView) (entries keeps : List (Option ℕ)) (sought : Sought) (w k : ℕ) → IsWellFormedCore m entries keeps sought → slice_index_or m.work w None ≡ Some k → slice_index_or entries k None ≡ None
+pub run_unqueued : (m : CoreView) (entries keeps : List (Option ℕ)) (sought : Bool) (w k : ℕ) → IsWellFormedCore m entries keeps sought → slice_index_or m.work w None ≡ Some k → slice_index_or entries k None ≡ None
 run_unqueued m entries keeps sought w k kept busy =
     ap (λ q. slice_index_or q k None) kept.queue ∙ (queued_at m.tasks k ∙ running_unqueued (slice_index_or m.tasks k vacant) (at_work m entries keeps sought w k kept busy))
 
 -- and is not kept
-run_unkept : (m : CoreView) (entries keeps : List (Option ℕ)) (sought : Sought) (w k : ℕ) → IsWellFormedCore m entries keeps sought → slice_index_or m.work w None ≡ Some k → (slice_index_or m.tasks k vacant).kept ≡ false
+run_unkept : (m : CoreView) (entries keeps : List (Option ℕ)) (sought : Bool) (w k : ℕ) → IsWellFormedCore m entries keeps sought → slice_index_or m.work w None ≡ Some k → (slice_index_or m.tasks k vacant).kept ≡ false
 run_unkept m entries keeps sought w k kept busy = elim (cases_Bool (slice_index_or m.tasks k vacant).kept) [
   | inl is ↦ let clash : ph.Running ≡ ph.Waiting = sym (at_work m entries keeps sought w k kept busy) ∙ (kept.sound.kept k is).0 in absurd cc
   | inr not ↦ not
@@ -265,7 +252,7 @@ abbrev pub finished_in : CoreView → ℕ → Outcome → ℕ → List Task
 finished_in m k outcome due = set m.tasks k (finished_task outcome due (slice_index_or m.tasks k vacant))
 
 -- a core takes the step of a finish
-pub finish_takes : (m : CoreView) (entries keeps : List (Option ℕ)) (sought : Sought) (w k n due : ℕ) (ending : Ending) (outcome : Outcome) (task : Task) (tasks : List Task) → IsWellFormedCore m entries keeps sought →
+pub finish_takes : (m : CoreView) (entries keeps : List (Option ℕ)) (sought : Bool) (w k n due : ℕ) (ending : Ending) (outcome : Outcome) (task : Task) (tasks : List Task) → IsWellFormedCore m entries keeps sought →
     Ran m w k ending outcome due task → tasks ≡ finished_in m k outcome due → n ≡ task.run → Takes m (finished m w tasks) (h.Finish w ending) (a.Finish w k n outcome)
 finish_takes m entries keeps sought w k n due ending outcome task tasks kept ran written run =
     let x : Task = slice_index_or m.tasks k vacant in
@@ -320,7 +307,7 @@ unheld : (task : Task) → task.kept ≡ false → held task ≡ None
 unheld task q = ap (λ b. cond b (Some task.due) None) q
 
 -- a core stays well formed where a worker finishes a task
-finish_kept : (m : CoreView) (entries keeps left : List (Option ℕ)) (sought : Sought) (w k due : ℕ) (ending : Ending) (outcome : Outcome) (task : Task) → IsWellFormedCore m entries keeps sought → Ran m w k ending outcome due task →
+finish_kept : (m : CoreView) (entries keeps left : List (Option ℕ)) (sought : Bool) (w k due : ℕ) (ending : Ending) (outcome : Outcome) (task : Task) → IsWellFormedCore m entries keeps sought → Ran m w k ending outcome due task →
     left ≡ set entries k (queued_again outcome) → IsWellFormedCore (finished m w (finished_in m k outcome due)) left keeps sought
 finish_kept m entries keeps left sought w k due ending outcome task kept ran put =
     let x : Task = slice_index_or m.tasks k vacant in
@@ -347,8 +334,6 @@ finish_kept m entries keeps left sought w k due ending outcome task kept ran put
       keeping = kept.keeping ∙ sym (map-set_same held m.tasks k new vacant (unheld new (end_keeps outcome due x ∙ unkept) ∙ sym (unheld x unkept)));
       timing = still.timing;
       delayed = still.delayed;
-      periodic = still.periodic;
-      noted = noted_at sought _ _ _ _ (length-set m.tasks k new) (length-set m.work w None) kept.noted;
       fresh = fresh_stays m entries keeps sought k new kept low used;
       sound = still.sound;
       due = still.due;
@@ -356,7 +341,7 @@ finish_kept m entries keeps left sought w k due ending outcome task kept ran put
     }
 
 -- the same, with the tasks as the calls leave them
-pub finish_keeps : (m : CoreView) (entries keeps left : List (Option ℕ)) (sought : Sought) (w k due : ℕ) (ending : Ending) (outcome : Outcome) (task : Task) (tasks : List Task) → IsWellFormedCore m entries keeps sought → Ran m w k ending outcome due task →
+pub finish_keeps : (m : CoreView) (entries keeps left : List (Option ℕ)) (sought : Bool) (w k due : ℕ) (ending : Ending) (outcome : Outcome) (task : Task) (tasks : List Task) → IsWellFormedCore m entries keeps sought → Ran m w k ending outcome due task →
     tasks ≡ finished_in m k outcome due → left ≡ set entries k (queued_again outcome) → IsWellFormedCore (finished m w tasks) left keeps sought
 finish_keeps m entries keeps left sought w k due ending outcome task tasks kept ran written put =
     subst (λ l. IsWellFormedCore (finished m w l) left keeps sought) (sym written) (finish_kept m entries keeps left sought w k due ending outcome task kept ran put)

@@ -24,10 +24,9 @@ use Rattle.executor_core.specs.Tasks.{uncancelled_in}
 use Rattle.executor_core.specs.CoreView.{CoreView, workers_of, state_of}
 use Rattle.executor_core.specs.own.Invariants.{IsWellFormedCore, queued, held}
 use Rattle.executor_core.specs.own.OwnSteps.{Takes}
-use Rattle.executor_core.specs.own.Sought.{Sought}
 use Rattle.executor_core.proofs.Keeping.{kept_stays}
 use Rattle.executor_core.proofs.Agree.{still_true}
-use Rattle.executor_core.proofs.Tables.{at_set, submission, next_later, runs_set, uncancelled_set, noted_at}
+use Rattle.executor_core.proofs.Tables.{at_set, submission, next_later, runs_set, uncancelled_set}
 use Rattle.executor_core.proofs.Calling.{view_at, called_state, call_reply, call_state, kept_so, passed, passed_steps}
 
 -- a call that is refused
@@ -92,7 +91,7 @@ submitted_at m task k due timing low fresh timed = at_set m.tasks task k (waitin
     by false apart = λ i. record (slice_index_or m.tasks k vacant) { kept = kept_so (slice_index_or m.tasks k vacant).kept i }
 
 -- the step of a submission
-submit_takes : (m : CoreView) (entries keeps : List (Option ℕ)) (sought : Sought) (at task delay : ℕ) (timing : Timing) (kind : Kind) → IsWellFormedCore m entries keeps sought →
+submit_takes : (m : CoreView) (entries keeps : List (Option ℕ)) (sought : Bool) (at task delay : ℕ) (timing : Timing) (kind : Kind) → IsWellFormedCore m entries keeps sought →
     slice_get m.calls m.made ≡ Some (at, c.Submit task timing delay) → m.shut ≡ false → kind ≡ kind_of timing → Takes m (submitted m (max m.moment at) task timing (at + delay)) h.Call (a.Submit task kind (at + delay))
 submit_takes m entries keeps sought at task delay timing kind kept is opened how =
     let sub = submission m.calls 0 0 m.made at task timing delay kept.orderly.1 is in
@@ -113,7 +112,7 @@ submit_takes m entries keeps sought at task delay timing kind kept is opened how
     }
 
 -- what stays true after a submission
-submit_kept : (m : CoreView) (entries keeps : List (Option ℕ)) (sought : Sought) (at task delay : ℕ) (timing : Timing) → IsWellFormedCore m entries keeps sought →
+submit_kept : (m : CoreView) (entries keeps : List (Option ℕ)) (sought : Bool) (at task delay : ℕ) (timing : Timing) → IsWellFormedCore m entries keeps sought →
     slice_get m.calls m.made ≡ Some (at, c.Submit task timing delay) → m.shut ≡ false → IsWellFormedCore (submitted m (max m.moment at) task timing (at + delay)) (set entries task (Some (at + delay))) keeps sought
 submit_kept m entries keeps sought at task delay timing kept is opened =
     let sub = submission m.calls 0 0 m.made at task timing delay kept.orderly.1 is in
@@ -136,8 +135,6 @@ submit_kept m entries keeps sought at task delay timing kept is opened =
       keeping = kept.keeping ∙ sym (map-set_same held m.tasks task (waiting timing (at + delay)) vacant (sym (ap held fresh)));
       timing = still.timing;
       delayed = still.delayed;
-      periodic = still.periodic;
-      noted = noted_at sought _ _ _ _ (length-set m.tasks task (waiting timing (at + delay))) refl kept.noted;
       fresh = λ k above.
           let more : task_count (take (m.made + 1) m.calls) ≡ task + 1 = ap (λ n. task_count (take n m.calls)) (add-one m.made) ∙ (omega arith ∙ sub.more) in
           at_set m.tasks task k (waiting timing (at + delay)) vacant low
@@ -153,7 +150,7 @@ submit_kept m entries keeps sought at task delay timing kept is opened =
 -- the same, with what a call gives
 
 -- a core whose tables the code has written at a submission stays well formed
-pub submit_keeps_in : (m : CoreView) (entries entries' keeps : List (Option ℕ)) (sought : Sought) (moment at task delay : ℕ) (timing : Timing) (tasks : List Task) → IsWellFormedCore m entries keeps sought →
+pub submit_keeps_in : (m : CoreView) (entries entries' keeps : List (Option ℕ)) (sought : Bool) (moment at task delay : ℕ) (timing : Timing) (tasks : List Task) → IsWellFormedCore m entries keeps sought →
     slice_get m.calls m.made ≡ Some (at, c.Submit task timing delay) → m.shut ≡ false → moment ≡ max m.moment at → entries' ≡ set entries task (Some (at + delay)) → tasks ≡ set m.tasks task (waiting timing (at + delay)) →
     IsWellFormedCore (record m { made = m.made + 1; moment = moment; tasks = tasks }) entries' keeps sought
 submit_keeps_in m entries entries' keeps sought moment at task delay timing tasks kept is opened greatest put written =
@@ -162,7 +159,7 @@ submit_keeps_in m entries entries' keeps sought moment at task delay timing task
     (subst (λ n. IsWellFormedCore (submitted m n task timing (at + delay)) (set entries task (Some (at + delay))) keeps sought) (sym greatest) (submit_kept m entries keeps sought at task delay timing kept is opened)))
 
 -- a core whose table the code has written takes the step of a submission
-pub submit_steps_in : (m old : CoreView) (entries keeps : List (Option ℕ)) (sought : Sought) (moment at task delay : ℕ) (timing : Timing) (kind : Kind) (tasks : List Task) → IsWellFormedCore m entries keeps sought →
+pub submit_steps_in : (m old : CoreView) (entries keeps : List (Option ℕ)) (sought : Bool) (moment at task delay : ℕ) (timing : Timing) (kind : Kind) (tasks : List Task) → IsWellFormedCore m entries keeps sought →
     slice_get m.calls m.made ≡ Some (at, c.Submit task timing delay) → m.shut ≡ false → kind ≡ kind_of timing → moment ≡ max m.moment at → m ≡ old → tasks ≡ set m.tasks task (waiting timing (at + delay)) →
     Takes old (record m { made = m.made + 1; moment = moment; tasks = tasks }) h.Call (a.Submit task kind (at + delay))
 submit_steps_in m old entries keeps sought moment at task delay timing kind tasks kept is opened how greatest same written =

@@ -24,7 +24,6 @@ use Rattle.executor_core.specs.own.Tables.{waits_with, waits_again, is_waiting_p
 use Rattle.executor_core.specs.CoreView.{CoreView, state_of}
 use Rattle.executor_core.specs.own.Invariants.{IsWellFormedCore, queued, queued_phase}
 use Rattle.executor_core.specs.own.OwnSteps.{Ends}
-use Rattle.executor_core.specs.own.Sought.{Sought}
 use Rattle.executor_core.proofs.Tables.{at_set}
 use Rattle.executor_core.proofs.Asking.{seen_waits, count_entries}
 use Rattle.delay_queue.specs.Queues.{entry_count}
@@ -163,18 +162,18 @@ swept_under terms t stopped policies moment over timing =
     ap (λ b. b && is_ended_by stopped policies moment terms.timing (due_seen terms t.phase t.due)) (seen_waits terms t over) ∙ pick (waits_with t) refl
 
 -- a sweep ends the tasks that wait and that the policies do not let run
-pub swept_is : (m : CoreView) (entries keeps : List (Option ℕ)) (sought : Sought) (k : ℕ) → IsWellFormedCore m entries keeps sought →
+pub swept_is : (m : CoreView) (entries keeps : List (Option ℕ)) (sought : Bool) (k : ℕ) → IsWellFormedCore m entries keeps sought →
     sweeps_at m k ≡ (waits_with (slice_index_or m.tasks k vacant) && is_ended_by m.stopped m.policies m.moment (slice_index_or m.tasks k vacant).timing (slice_index_or m.tasks k vacant).due)
 swept_is m entries keeps sought k kept = swept_under (terms_of m.calls k) (slice_index_or m.tasks k vacant) m.stopped m.policies m.moment (kept.sound.over k) (kept.timing k)
 
 -- what waits on a sweep
 
 -- what a sweep of a core ends waits
-pub swept_waits : (m : CoreView) (entries keeps : List (Option ℕ)) (sought : Sought) (k : ℕ) → IsWellFormedCore m entries keeps sought → sweeps_at m k ≡ true → waits_with (slice_index_or m.tasks k vacant) ≡ true
+pub swept_waits : (m : CoreView) (entries keeps : List (Option ℕ)) (sought : Bool) (k : ℕ) → IsWellFormedCore m entries keeps sought → sweeps_at m k ≡ true → waits_with (slice_index_or m.tasks k vacant) ≡ true
 swept_waits m entries keeps sought k kept swept = and_left (waits_with (slice_index_or m.tasks k vacant)) _ (sym (swept_is m entries keeps sought k kept) ∙ swept)
 
 -- the same, of the core that is seen
-pub swept_waits_in : (m cur : CoreView) (entries keeps : List (Option ℕ)) (sought : Sought) (k : ℕ) → IsWellFormedCore m entries keeps sought → m ≡ cur → sweeps_at cur k ≡ true → waits_with (slice_index_or cur.tasks k vacant) ≡ true
+pub swept_waits_in : (m cur : CoreView) (entries keeps : List (Option ℕ)) (sought : Bool) (k : ℕ) → IsWellFormedCore m entries keeps sought → m ≡ cur → sweeps_at cur k ≡ true → waits_with (slice_index_or cur.tasks k vacant) ≡ true
 swept_waits_in m cur entries keeps sought k kept is swept = swept_waits cur entries keeps sought k (subst (λ x. IsWellFormedCore x entries keeps sought) is kept) swept
 
 -- where none is counted, none passes the test
@@ -188,8 +187,8 @@ none_counted test (t ∷ tasks) (suc k) past none =
     none_counted test tasks k past (pick (test t) none)
 
 -- no task is ended where the executor is not stopped, periodic tasks go on, or none waits, and delayed ones are run, or none is left
-pub none_swept : (m : CoreView) (entries keeps : List (Option ℕ)) (sought : Sought) → IsWellFormedCore m entries keeps sought → m.stopped ≡ false →
-    (m.policies.continues ≡ true) ⊎ (periodic_in m.tasks ≡ 0) → (m.policies.executes ≡ true) ⊎ (sought.delayed ≡ true) → (k : ℕ) → sweeps_at m k ≡ false
+pub none_swept : (m : CoreView) (entries keeps : List (Option ℕ)) (sought : Bool) → IsWellFormedCore m entries keeps sought → m.stopped ≡ false →
+    (m.policies.continues ≡ true) ⊎ (periodic_in m.tasks ≡ 0) → (m.policies.executes ≡ true) ⊎ (sought ≡ true) → (k : ℕ) → sweeps_at m k ≡ false
 none_swept m entries keeps sought kept unstopped periodic delayed k =
     let t = slice_index_or m.tasks k vacant in
     let again : is_periodic t.timing ≡ true → waits_with t ≡ true → not m.policies.continues ≡ false =
@@ -220,7 +219,7 @@ none_swept m entries keeps sought kept unstopped periodic delayed k =
     swept_is m entries keeps sought k kept ∙ pick (waits_with t) refl
 
 -- no task is ended where the queue is empty
-pub none_queued : (m : CoreView) (entries keeps : List (Option ℕ)) (sought : Sought) → IsWellFormedCore m entries keeps sought → entry_count entries ≡ 0 → (k : ℕ) → sweeps_at m k ≡ false
+pub none_queued : (m : CoreView) (entries keeps : List (Option ℕ)) (sought : Bool) → IsWellFormedCore m entries keeps sought → entry_count entries ≡ 0 → (k : ℕ) → sweeps_at m k ≡ false
 none_queued m entries keeps sought kept none k =
     let t = slice_index_or m.tasks k vacant in
     let counted : how_many (λ (x : Task). is_some (queued x)) m.tasks ≡ 0 = sym (count_entries queued m.tasks) ∙ (ap entry_count (sym kept.queue) ∙ none) in

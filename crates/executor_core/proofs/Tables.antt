@@ -1,8 +1,8 @@
 -- Tables of tasks and workers as lists, and the numbers of submissions.
-use Rattle.std.proofs.Common.{◌≡◌, ◌≢◌, ℕ, ◌+◌, ◌^◌, ◌<◌, ◌≤◌, ◌==◌, zero, suc, Bool, true, false, cond, List, [], ◌∷◌, length, map, take, Option, Some, None, refl, sym, ap, ◌∙◌, arith, subst, ◌&&◌}
+use Rattle.std.proofs.Common.{◌≡◌, ◌≢◌, ℕ, ◌+◌, ◌^◌, ◌<◌, ◌≤◌, ◌==◌, zero, suc, Bool, true, false, cond, List, [], ◌∷◌, length, map, take, Option, Some, None, refl, sym, ap, ◌∙◌, arith, subst}
 use Rattle.std.specs.Prelude.{slice_get, slice_index_or, replicate, is_some, not}
 use Rattle.std.proofs.Math.ListN.{set}
-use Rattle.std.proofs.lemmas.Bool.{false≢true, eqb-true, eqb-false, eq-eqb, false_from_ne_true, and_parts}
+use Rattle.std.proofs.lemmas.Bool.{false≢true, eqb-true, eqb-false, eq-eqb, false_from_ne_true}
 use Rattle.std.proofs.lemmas.Option.{none-some, same_Some}
 use Rattle.std.proofs.lemmas.List.{get_or-set_same, get_or-set_other}
 use Rattle.queue_code.specs.declared.call.CodeCall.{CodeCall}
@@ -13,10 +13,7 @@ use Rattle.executor_core.specs.declared.task.Task.{Task}
 use Rattle.executor_core.specs.State.{vacant}
 use Rattle.executor_core.specs.Tasks.{uncancelled_in}
 use Rattle.executor_core.specs.own.Invariants.{RunsBelow, queued, held}
-use Rattle.executor_core.specs.own.Sought.{Sought, AreNoted}
 use Rattle.queue_code.specs.Calls.{Planned, IsOrderlyFrom, IsOrderlyCall, count_after, submits_task, task_count, terms_of}
-use Rattle.executor_core.specs.declared.task.Stage.{Stage}
-use Rattle.executor_core.specs.own.Tables.{is_live_phase, is_periodic}
 
 -- a table after a write
 pub at_set : {X : Type 0} (xs : List X) (k j : ℕ) (x d : X) → k < length xs → slice_index_or (set xs k x) j d ≡ cond (k == j) x (slice_index_or xs j d)
@@ -187,24 +184,3 @@ uncancelled_set (x ∷ tasks) (suc k) task low same =
     elim [ true ↦ omega (arith, rest) | false ↦ rest ]
     in
     pick (not x.cancelled)
-
--- tasks that go on
-
--- a periodic task that goes on is of such a timing, in such a phase, and not cancelled
-pub goes_parts : (phase : Stage) (cancelled : Bool) (timing : Timing) → (is_live_phase phase && (not cancelled && is_periodic timing)) ≡ true → (is_live_phase phase ≡ true) × (cancelled ≡ false) × (is_periodic timing ≡ true)
-goes_parts phase cancelled timing is =
-    let rest = and_parts (is_live_phase phase) (not cancelled && is_periodic timing) is in
-    let last = and_parts (not cancelled) (is_periodic timing) rest.1 in
-    (rest.0, not_true cancelled last.0, last.1)
-  where
-    not_true : (b : Bool) → not b ≡ true → b ≡ false
-    not_true true q = absurd (false≢true q)
-    not_true false q = refl
-
--- and a task of such parts goes on
-pub goes_from : (phase : Stage) (cancelled : Bool) (timing : Timing) → is_live_phase phase ≡ true → cancelled ≡ false → is_periodic timing ≡ true → (is_live_phase phase && (not cancelled && is_periodic timing)) ≡ true
-goes_from phase cancelled timing live uncancelled more = λ i. live i && (not (uncancelled i) && more i)
-
--- what was noted stays so where there are as many tasks and workers
-pub noted_at : (sought : Sought) (count count' workers workers' : ℕ) → count' ≡ count → workers' ≡ workers → AreNoted sought count workers → AreNoted sought count' workers'
-noted_at sought count count' workers workers' tasks work noted = subst (λ n. AreNoted sought n workers') (sym tasks) (subst (AreNoted sought count) (sym work) noted)

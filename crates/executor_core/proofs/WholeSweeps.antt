@@ -2,11 +2,9 @@
 use Rattle.std.proofs.Common.{suc, ◌≡◌, ℕ, ◌+◌, ◌≤◌, ◌&&◌, ◌||◌, nat_lt, Bool, true, false, cond, List, [], ◌∷◌, ◌++◌, length, map, Option, refl, sym, ap, ◌∙◌, arith, subst}
 use Rattle.std.specs.Prelude.{slice_index_or, not}
 use Rattle.std.specs.List.{filter, range_with_len}
-use Rattle.std.proofs.lemmas.Bool.{false≢true, false_from_ne_true}
+use Rattle.std.proofs.lemmas.Bool.{false≢true}
 use Rattle.std.proofs.lemmas.Bool.Decides.{nat_tests}
 use Rattle.std.proofs.lemmas.List.{append-nil, get_or_past}
-use Rattle.sched_time.specs.declared.timing.Timing.{Timing}
-use Rattle.sched_time.specs.declared.timing.Timing.TheVariants as how
 use Rattle.executor_core.specs.declared.task.Task.{Task}
 use Rattle.executor_core.specs.declared.types.Line.{Line}
 use Rattle.queue_code.specs.Calls.{terms_of, task_count, how_many}
@@ -15,12 +13,11 @@ use Rattle.executor_core.specs.Answers.{is_ended_by, swept, bars_runs}
 use Rattle.executor_core.specs.State.{vacant, seen_task}
 use Rattle.executor_core.specs.Flows.{end_line}
 use Rattle.executor_core.specs.Tasks.{uncancelled_in}
-use Rattle.executor_core.specs.own.Tables.{waits_with, waits_again, is_waiting_phase, is_periodic}
+use Rattle.executor_core.specs.own.Tables.{waits_with, is_waiting_phase}
 use Rattle.executor_core.specs.CoreView.{CoreView, state_of}
 use Rattle.executor_core.specs.own.Invariants.{IsWellFormedCore, NoneDelayed}
 use Rattle.executor_core.specs.own.OwnSteps.{Ends, Drops, Sweeps}
-use Rattle.executor_core.specs.own.Sought.{Sought}
-use Rattle.executor_core.proofs.Sweeping.{and_none, filter_none, and_left, and_right, sweeps_at, swept_is, sweeps_task}
+use Rattle.executor_core.proofs.Sweeping.{and_none, filter_none, sweeps_at, swept_is, sweeps_task}
 
 -- a whole sweep
 
@@ -75,7 +72,7 @@ all_ended old cur before lines ends k =
     ∙ (ap (λ x. sweeps_task old k x) (ends.each k ∙ ap (λ b. record t { cancelled = b || t.cancelled }) (all_below old k)) ∙ pick (sweeps_at old k) refl)
 
 -- where delayed tasks are not run, and none is left to end, none waits
-pub none_delayed : (m : CoreView) (entries keeps : List (Option ℕ)) (sought : Sought) → IsWellFormedCore m entries keeps sought → m.policies.executes ≡ false → ((k : ℕ) → sweeps_at m k ≡ false) → NoneDelayed (state_of m)
+pub none_delayed : (m : CoreView) (entries keeps : List (Option ℕ)) (sought : Bool) → IsWellFormedCore m entries keeps sought → m.policies.executes ≡ false → ((k : ℕ) → sweeps_at m k ≡ false) → NoneDelayed (state_of m)
 none_delayed m entries keeps sought kept off swept k waits live once =
     let t = slice_index_or m.tasks k vacant in
     let waiting : waits_with t ≡ true = λ i. is_waiting_phase (waits i) && not (live i) in
@@ -87,23 +84,8 @@ none_delayed m entries keeps sought kept off swept k waits live once =
     not_after : (now due : ℕ) → nat_lt now due ≡ false → due ≤ now
     not_after now due q = grind (arith, nat_tests, q)
 
--- where periodic tasks do not go on, and none is left to end, no periodic task waits
-pub none_again : (m : CoreView) (entries keeps : List (Option ℕ)) (sought : Sought) → IsWellFormedCore m entries keeps sought → m.policies.continues ≡ false → ((k : ℕ) → sweeps_at m k ≡ false) → (k : ℕ) → waits_again (slice_index_or m.tasks k vacant) ≡ false
-none_again m entries keeps sought kept off swept k =
-    let t = slice_index_or m.tasks k vacant in
-    let stays : (waits_with t && is_ended_by m.stopped m.policies m.moment t.timing t.due) ≡ false = sym (swept_is m entries keeps sought k kept) ∙ swept k in
-    let ends : (timing : Timing) → is_periodic timing ≡ true → is_ended_by m.stopped m.policies m.moment timing t.due ≡ true =
-    elim [ how.Once ↦ λ q. absurd (false≢true q) | how.Rate period ↦ λ q. (λ i. m.stopped || not (off i)) ∙ or_true m.stopped | how.Fixed delay ↦ λ q. (λ i. m.stopped || not (off i)) ∙ or_true m.stopped ]
-    in
-    false_from_ne_true (waits_again t) (λ is.
-    let waiting : is_waiting_phase t.phase ≡ true = and_left (is_waiting_phase t.phase) _ is in
-    let rest = and_right (is_waiting_phase t.phase) _ is in
-    let live = and_left (not t.cancelled) (is_periodic t.timing) rest in
-    let more = and_right (not t.cancelled) (is_periodic t.timing) rest in
-    false≢true (sym stays ∙ (λ i. (waiting i && live i) && ends t.timing more i)))
-
 -- the core stays well formed once it is noted that no delayed task is left
-pub delayed_is_noted : (m : CoreView) (entries keeps : List (Option ℕ)) (sought now : Sought) → IsWellFormedCore m entries keeps sought → m.shut ≡ true → NoneDelayed (state_of m) → now ≡ record sought { delayed = true } →
+pub delayed_is_noted : (m : CoreView) (entries keeps : List (Option ℕ)) (sought now : Bool) → IsWellFormedCore m entries keeps sought → m.shut ≡ true → NoneDelayed (state_of m) → now ≡ true →
     IsWellFormedCore m entries keeps now
 delayed_is_noted m entries keeps sought now kept shut none is = subst (IsWellFormedCore m entries keeps) (sym is) (record {
   orderly = kept.orderly;
@@ -118,8 +100,6 @@ delayed_is_noted m entries keeps sought now kept shut none is = subst (IsWellFor
   keeping = kept.keeping;
   timing = kept.timing;
   delayed = λ q. (shut, none);
-  periodic = kept.periodic;
-  noted = record { ascending = kept.noted.ascending; below = kept.noted.below; few = kept.noted.few; room = kept.noted.room; none = kept.noted.none };
   fresh = kept.fresh;
   sound = kept.sound;
   due = kept.due;

@@ -5,6 +5,5 @@ pub mod Invariants
 pub mod Kept
 pub mod OwnSteps
 pub mod Said
-pub mod Sought
 pub mod Tables
 pub mod Within

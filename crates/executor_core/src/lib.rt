@@ -85,11 +85,10 @@
 //! each call that is left and one for each task that is not cancelled. A clock costs what the calls that it reaches
 //! cost; a submission, a start, a finish and a cancel cost what the queue of waiting tasks does
 //! (see [`DelayQueue`](delay_queue::DelayQueue)), and a start also what the kept tasks that leave cost. Setting a policy
-//! that does not sweep and asking how far the executor is cost the same whatever it holds. The first sweep at
-//! which delayed tasks are not executed goes over all tasks once, and so does the first that finds periodic tasks to end,
-//! which goes over them once more to note those that run. A shutdown at once goes over all tasks where one waits. Each
-//! other sweep looks at no more tasks than there are workers, those that were noted, and finds each by a binary search; where it
-//! has nothing to end it costs nothing but the kept tasks that leave.
+//! that does not sweep and asking how far the executor is cost the same whatever it holds. A sweep goes over all
+//! tasks where there may be one that it ends: at a shutdown at once where a task waits, where periodic tasks do not go on and one
+//! of them waits, and the first time that delayed tasks are not executed. Each other sweep costs nothing but the kept tasks that
+//! leave.
 //!
 //! # Tests
 //!
@@ -104,7 +103,6 @@ mod limits;
 mod machine;
 mod room;
 mod said;
-mod sought;
 mod tallies;
 mod task;
 mod tasks;

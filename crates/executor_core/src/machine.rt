@@ -18,7 +18,6 @@ mod workers;
 use crate::error::CoreError;
 use crate::limits::MOST_WORKERS;
 use crate::room::make_room;
-use crate::sought::Sought;
 use crate::tasks::Tasks;
 use crate::types::{Event, Happening, Line};
 use delay_queue::DelayQueue;
@@ -45,7 +44,8 @@ pub struct Core<A: Allocator> {
     shut: bool,
     /// A call to shut down at once was made.
     stopped: bool,
-    sought: Sought<A>,
+    /// A sweep has looked for the delayed tasks and ended them, and no more come.
+    sought: bool,
     limit: u32,
     taken: u32,
 }
@@ -229,7 +229,6 @@ impl<A: Allocator> Core<A> {
         let work = Vec::from_elem(alloc, None, workers as usize)?;
         let queue = DelayQueue::new(alloc, count).map_err(|_| AllocError)?;
         let kept = DelayQueue::new(alloc, count).map_err(|_| AllocError)?;
-        let sought = Sought::new(alloc, workers as usize)?;
         let calls = Agenda::new(code);
         Ok(Core {
             calls,
@@ -241,7 +240,7 @@ impl<A: Allocator> Core<A> {
             policies: Policies::defaults(),
             shut: false,
             stopped: false,
-            sought,
+            sought: false,
             limit,
             taken: 0,
         })

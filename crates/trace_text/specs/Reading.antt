@@ -8,7 +8,7 @@ use Rattle.trace_text.specs.declared.front.Front.{Front}
 use Rattle.trace_text.specs.declared.front.Front.TheVariants as front
 use Rattle.trace_text.specs.Spelling.{IsLine, event_line, FitsEvent, line_text, FitsLine}
 
--- the greatest number of bytes of an event's line with its newline (this project's limit)
+-- the greatest number of bytes of a line that is read as an event's, with its newline (this project's limit; no event's is so long)
 abbrev pub most_event_bytes : ℕ
 most_event_bytes = 63
 
@@ -40,7 +40,7 @@ Any v = Unit {0}
 abbrev pub EndsNumber : List ℕ → Type 0
 EndsNumber rest = IsInRange 48 57 (slice_index rest 0) → ⊥
 
--- no newline yet, and fewer bytes than an event's line may have
+-- no newline yet, and fewer bytes than are read as a line: none of an event, perhaps, whatever follows
 abbrev pub IsPart : List ℕ → Type 0
 IsPart bytes = IsLine bytes × (length bytes < most_event_bytes)
 

@@ -72,8 +72,8 @@ error_text error.Busy = codes "busy"
 error_text error.NotRunning = codes "not running"
 error_text error.NoTask = codes "no task"
 
--- what a cancel did, in a word: `yes`, it cancelled the task; `no`, the task was over before; `none`, no such task
--- was accepted by then
+-- what a cancel did, in a word: `yes`, it cancelled the task; `no`, the task was over or cancelled before; `none`, no
+-- such task was accepted by then
 abbrev pub effect_text : CancelEffect → List ℕ
 effect_text effect.Yes = codes "yes"
 effect_text effect.No = codes "no"

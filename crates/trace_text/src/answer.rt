@@ -6,7 +6,10 @@ ghost use Rattle.trace_text.specs.Spelling.{message_text, FitsMessage, cancel_te
 ghost use Rattle.trace_text.specs.own.Spelling.{FitsCancel};
 ghost use Rattle.trace_text.specs.Reading.{IsRead, IsUnread};
 
-use crate::scan::{code_before, number_before, strip, strip_word, worker_before};
+use crate::scan::{
+    code_before, code_before_short_word, number_before, number_before_short_word, strip,
+    strip_short_word, worker_before, worker_before_short_word,
+};
 use crate::words::{
     split_effect, split_kind, split_outcome, split_refusal, split_truth, split_whether, split_which,
 };
@@ -22,16 +25,16 @@ pub fn split_start(bytes: &[u8]) -> Option<(Said, &[u8])>
     let Some((worker, rest)) = worker_before(bytes, b" ") else {
         return None;
     };
-    if let Some(rest) = strip_word(rest, *b"idle\n") {
+    if let Some(rest) = strip_short_word(rest, *b"idle\n") {
         return Some((Said::Idle { worker }, rest));
     }
-    let Some(rest) = strip_word(rest, *b"task ") else {
+    let Some(rest) = strip_short_word(rest, *b"task ") else {
         return None;
     };
-    let Some((task, rest)) = code_before(rest, b" run ") else {
+    let Some((task, rest)) = code_before_short_word(rest, *b" run ") else {
         return None;
     };
-    let Some((run, rest)) = number_before(rest, b" due ") else {
+    let Some((run, rest)) = number_before_short_word(rest, *b" due ") else {
         return None;
     };
     let Some((due, rest)) = number_before(rest, b"\n") else {
@@ -55,10 +58,10 @@ pub fn split_finish(bytes: &[u8]) -> Option<(Said, &[u8])>
         (λ r. IsRead message_text FitsMessage (codes " finish " ++ bytes.now) (message_of r.0)
         r.1.now) }
 {
-    let Some((worker, rest)) = worker_before(bytes, b" task ") else {
+    let Some((worker, rest)) = worker_before_short_word(bytes, *b" task ") else {
         return None;
     };
-    let Some((task, rest)) = code_before(rest, b" run ") else {
+    let Some((task, rest)) = code_before_short_word(rest, *b" run ") else {
         return None;
     };
     let Some((run, rest)) = number_before(rest, b" ") else {

@@ -171,9 +171,27 @@ pub fn put_done(buffer: &mut [u8], at: usize, worker: u8, task: u32, run: u64, v
     put_text(buffer, end, *b"\n")
 }
 
-/// Puts a worker whose run ended, after which its task waits for its next run.
+/// Puts a worker whose run ended, after which its task waits for its next run: by a call, as [`put_start`].
 #[inline(never)]
 pub fn put_again(buffer: &mut [u8], at: usize, worker: u8, task: u32, run: u64, due: u64) -> usize
+    requires { at + ANSWER_ROOM ≤ length buffer.old }
+    ensures end { result ≤ at + ANSWER_ROOM }
+    ensures put { Puts (take at buffer.old) (take result buffer.new)
+        (answer_text (a.Finish worker task run (o.Again due))) }
+{
+    put_again_here(buffer, at, worker, task, run, due)
+}
+
+/// Puts a worker whose run ended, after which its task waits for its next run, where it is called: for a loop over many lines.
+#[inline(always)]
+pub fn put_again_here(
+    buffer: &mut [u8],
+    at: usize,
+    worker: u8,
+    task: u32,
+    run: u64,
+    due: u64,
+) -> usize
     requires { at + ANSWER_ROOM ≤ length buffer.old }
     ensures end { result ≤ at + ANSWER_ROOM }
     ensures put { Puts (take at buffer.old) (take result buffer.new)

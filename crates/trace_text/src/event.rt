@@ -3,7 +3,7 @@ ghost use Rattle.std.specs.Prelude.{◌≡◌, ◌≢◌, ℕ, ◌^◌, ◌++◌
 ghost use Rattle.trace_text.specs.Spelling.{Spells, event_line, ending_line, FitsEvent, FitsEnding};
 ghost use Rattle.trace_text.specs.Reading.{IsRead, IsUnread, number_then, Below};
 
-use crate::scan::{split_number, strip, strip_word};
+use crate::scan::{split_number, strip, strip_short_word};
 use executor_core::Event;
 use sched_time::Ending;
 
@@ -28,22 +28,22 @@ pub fn split_event(bytes: &[u8]) -> Option<(Event, &[u8])>
     ensures { MatchOption result (IsUnread event_line FitsEvent bytes.now)
         (λ r. IsRead event_line FitsEvent bytes.now r.0 r.1.now) }
 {
-    if let Some(rest) = strip_word(bytes, *b"start ") {
+    if let Some(rest) = strip_short_word(bytes, *b"start ") {
         let Some((worker, rest)) = last_worker(rest) else {
             return None;
         };
         return Some((Event::Start(worker), rest));
     }
-    if let Some(rest) = strip_word(bytes, *b"finish ") {
+    if let Some(rest) = strip_short_word(bytes, *b"finish ") {
         return split_finish(rest);
     }
-    if let Some(rest) = strip_word(bytes, *b"clock ") {
+    if let Some(rest) = strip_short_word(bytes, *b"clock ") {
         let Some((moment, rest)) = last_number(rest) else {
             return None;
         };
         return Some((Event::Clock(moment), rest));
     }
-    if let Some(rest) = strip_word(bytes, *b"cancel ") {
+    if let Some(rest) = strip_short_word(bytes, *b"cancel ") {
         let Some((task, rest)) = last_code(rest) else {
             return None;
         };
@@ -76,13 +76,13 @@ fn split_ending(bytes: &[u8]) -> Option<(Ending, &[u8])>
     ensures { MatchOption result (IsUnread ending_line FitsEnding bytes.now)
         (λ r. IsRead ending_line FitsEnding bytes.now r.0 r.1.now) }
 {
-    if let Some(rest) = strip_word(bytes, *b" ok ") {
+    if let Some(rest) = strip_short_word(bytes, *b" ok ") {
         let Some((value, rest)) = last_number(rest) else {
             return None;
         };
         return Some((Ending::Value(value), rest));
     }
-    if let Some(rest) = strip_word(bytes, *b" fail ") {
+    if let Some(rest) = strip_short_word(bytes, *b" fail ") {
         let Some((code, rest)) = last_code(rest) else {
             return None;
         };

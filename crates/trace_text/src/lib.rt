@@ -80,7 +80,7 @@
 //!
 //! # Memory and cost
 //!
-//! Readers take no memory, and look at each byte of a line once, or twice at the front of a word. The first word of a trace's
+//! Readers take no memory, and look at each byte of a line once, or a few times in a word. The first word of a trace's
 //! line is looked for among twelve, those that are most frequent first. Writers write each byte where it stays, and take memory
 //! only where there is less room than [`LINE_ROOM`] bytes; a capacity never falls. The longest event's line has 35 bytes, the
 //! longest line of a trace 104.

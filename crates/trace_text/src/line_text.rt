@@ -80,8 +80,8 @@ pub fn put_line(buffer: &mut [u8], at: usize, stamp: &mut Stamp, line: &Line) ->
     put_said(buffer, at, line.said())
 }
 
-/// As [`put_line`], for a loop over many lines: what submits, starts or ends a task is put where this is called, so that a line
-/// takes fewer steps and the loop more bytes of code.
+/// As [`put_line`], for a loop over many lines: what submits, starts or ends a task, and a run after which its task waits again, is
+/// put where this is called, so that a line takes fewer steps and the loop more bytes of code.
 #[inline(always)]
 pub fn put_line_here(buffer: &mut [u8], at: usize, stamp: &mut Stamp, line: &Line) -> usize
     requires { at + LINE_ROOM ≤ length buffer.old }

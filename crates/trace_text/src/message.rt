@@ -8,7 +8,7 @@ use crate::answer::{
     split_ask, split_cancel, split_finish, split_policy, split_refuse, split_shutdown, split_start,
     split_submit,
 };
-use crate::scan::{code_before, strip_word};
+use crate::scan::{code_before, strip_short_word, strip_word};
 use crate::words::split_error;
 use executor_core::Said;
 
@@ -20,39 +20,39 @@ pub fn split_message<const ALONE: bool>(bytes: &[u8]) -> Option<(Said, &[u8])>
     ensures { MatchOption result (IsUnread message_text FitsMessage bytes.now)
         (λ r. IsRead message_text FitsMessage bytes.now (message_of r.0) r.1.now) }
 {
-    if let Some(rest) = strip_word(bytes, *b" start ") {
+    if let Some(rest) = strip_short_word(bytes, *b" start ") {
         return split_start(rest);
     }
-    if let Some(rest) = strip_word(bytes, *b" finish ") {
+    if let Some(rest) = strip_short_word(bytes, *b" finish ") {
         return split_finish(rest);
     }
-    if let Some(rest) = strip_word(bytes, *b" clock\n") {
+    if let Some(rest) = strip_short_word(bytes, *b" clock\n") {
         return Some((Said::Clock, rest));
     }
-    if let Some(rest) = strip_word(bytes, *b" submit ") {
+    if let Some(rest) = strip_short_word(bytes, *b" submit ") {
         return split_submit(rest);
     }
-    if let Some(rest) = strip_word(bytes, *b" end ") {
+    if let Some(rest) = strip_short_word(bytes, *b" end ") {
         return split_end(rest);
     }
     if let Some(rest) = strip_word(bytes, *b" outside ") {
         let ((task, effect), rest) = split_cancel(rest)?;
         return Some((Said::Outside { effect, task }, rest));
     }
-    if let Some(rest) = strip_word(bytes, *b" cancel ") {
+    if let Some(rest) = strip_short_word(bytes, *b" cancel ") {
         let ((task, effect), rest) = split_cancel(rest)?;
         return Some((Said::Cancel { effect, task }, rest));
     }
-    if let Some(rest) = strip_word(bytes, *b" refuse ") {
+    if let Some(rest) = strip_short_word(bytes, *b" refuse ") {
         return split_refuse(rest);
     }
-    if let Some(rest) = strip_word(bytes, *b" error ") {
+    if let Some(rest) = strip_short_word(bytes, *b" error ") {
         return split_error(rest);
     }
     if let Some(rest) = strip_word(bytes, *b" ask queue ") {
         return split_ask(rest);
     }
-    if let Some(rest) = strip_word(bytes, *b" policy ") {
+    if let Some(rest) = strip_short_word(bytes, *b" policy ") {
         return split_policy(rest);
     }
     if let Some(rest) = strip_word(bytes, *b" shutdown") {

@@ -7,8 +7,8 @@ ghost use Rattle.executor_core.specs.declared.types.Message.TheVariants as m;
 ghost use Rattle.executor_core.specs.Said.{message_of};
 
 use crate::answer_text::{
-    ANSWER_ROOM, put_again, put_ask, put_done, put_effect, put_error, put_finish, put_idle,
-    put_policy, put_refuse, put_start, put_start_here, put_submit, put_submit_here,
+    ANSWER_ROOM, put_again, put_again_here, put_ask, put_done, put_effect, put_error, put_finish,
+    put_idle, put_policy, put_refuse, put_start, put_start_here, put_submit, put_submit_here,
 };
 use crate::put::{put_number, put_text};
 use executor_core::{Outcome, Said};
@@ -58,8 +58,8 @@ pub fn put_said(buffer: &mut [u8], at: usize, said: &Said) -> usize
     }
 }
 
-/// As [`put_said`], with a submission, a start and an end put where it is called: for a loop over many lines, which are mostly
-/// these.
+/// As [`put_said`], with a submission, a start, a run whose task waits again and an end put where it is called: for a loop over
+/// many lines, which are mostly these.
 #[inline(always)]
 pub fn put_said_here(buffer: &mut [u8], at: usize, said: &Said) -> usize
     requires { at + ANSWER_ROOM ≤ length buffer.old }
@@ -75,6 +75,12 @@ pub fn put_said_here(buffer: &mut [u8], at: usize, said: &Said) -> usize
             run,
             due,
         } => put_start_here(buffer, at, worker, task, run, due),
+        Said::Again {
+            worker,
+            task,
+            run,
+            due,
+        } => put_again_here(buffer, at, worker, task, run, due),
         Said::End(task) => put_end(buffer, at, task),
         _ => put_said(buffer, at, said),
     }

@@ -38,13 +38,38 @@ pub fn strip_word<const N: usize>(bytes: &[u8], word: [u8; N]) -> Option<&[u8]>
     Some(rest)
 }
 
+/// What follows `word`, of 4 to 8 bytes, at the front of `bytes`. `None` exactly when `bytes` does not begin with it. Its first
+/// four are compared at once, and then its last four: less code than [`strip_word`], and fewer steps.
+#[inline(always)]
+pub fn strip_short_word<const N: usize>(bytes: &[u8], word: [u8; N]) -> Option<&[u8]>
+    requires long { 4 ≤ N }
+    requires short { N ≤ 8 }
+    ensures { MatchOption result ((rest : List ℕ) → bytes.now ≢ word.entry ++ rest)
+        (λ rest. bytes.now ≡ word.entry ++ rest.now) }
+{
+    if bytes.len() < N {
+        return None;
+    }
+    let word = &word[..];
+    if first_four(bytes) != first_four(word) {
+        return None;
+    }
+    if first_four(&bytes[N - 4..]) != first_four(&word[N - 4..]) {
+        return None;
+    }
+    Some(&bytes[N..])
+}
+
 /// The first four bytes, as one number.
 #[inline(always)]
 fn first_four(bytes: &[u8]) -> u32
     requires { 4 ≤ length bytes.now }
     ensures { result ≡ from_le_bytes w32 (take 4 bytes.now) }
 {
-    u32::from_le_bytes([bytes[0], bytes[1], bytes[2], bytes[3]])
+    let Some(four) = bytes.first_chunk::<4>() else {
+        unreachable!();
+    };
+    u32::from_le_bytes(*four)
 }
 
 /// The number, below 2^64, that all digits at the front of `bytes` spell with no leading zero, and what follows it, in one
@@ -183,6 +208,43 @@ pub fn code_before<'a>(bytes: &'a [u8], word: &[u8]) -> Option<(u32, &'a [u8])>
     Some((number as u32, rest))
 }
 
+/// The number and what follows the word behind it, as [`number_before`] has them: for a word of 4 to 8 bytes, which is looked
+/// for by [`strip_short_word`].
+#[inline(always)]
+pub fn number_before_short_word<const N: usize>(bytes: &[u8], word: [u8; N]) -> Option<(u64, &[u8])>
+    requires plain { EndsNumber word }
+    requires long { 4 ≤ N }
+    requires short { N ≤ 8 }
+    ensures { MatchOption result (IsUnread (number_then word.entry) (Below (2 ^ 64)) bytes.now)
+        (λ r. IsRead (number_then word.entry) (Below (2 ^ 64)) bytes.now r.0 r.1.now) }
+{
+    let Some((number, rest)) = split_number_by_loop(bytes) else {
+        return None;
+    };
+    let Some(rest) = strip_short_word(rest, word) else {
+        return None;
+    };
+    Some((number, rest))
+}
+
+/// The code or task and what follows the word behind it, as [`code_before`] has them: for a word of 4 to 8 bytes.
+#[inline(always)]
+pub fn code_before_short_word<const N: usize>(bytes: &[u8], word: [u8; N]) -> Option<(u32, &[u8])>
+    requires plain { EndsNumber word }
+    requires long { 4 ≤ N }
+    requires short { N ≤ 8 }
+    ensures { MatchOption result (IsUnread (number_then word.entry) (Below (2 ^ 32)) bytes.now)
+        (λ r. IsRead (number_then word.entry) (Below (2 ^ 32)) bytes.now r.0 r.1.now) }
+{
+    let Some((code, rest)) = number_before_short_word(bytes, word) else {
+        return None;
+    };
+    if code > u32::MAX as u64 {
+        return None;
+    }
+    Some((code as u32, rest))
+}
+
 /// The worker at the front, below 2^8, and what follows the word behind it, as [`number_before`] has it.
 #[inline(always)]
 pub fn worker_before<'a>(bytes: &'a [u8], word: &[u8]) -> Option<(u8, &'a [u8])>
@@ -199,3 +261,24 @@ pub fn worker_before<'a>(bytes: &'a [u8], word: &[u8]) -> Option<(u8, &'a [u8])>
     }
     Some((number as u8, rest))
 }
+
+/// The worker and what follows the word behind it, as [`worker_before`] has them: for a word of 4 to 8 bytes.
+#[inline(always)]
+pub fn worker_before_short_word<const N: usize>(bytes: &[u8], word: [u8; N]) -> Option<(u8, &[u8])>
+    requires plain { EndsNumber word }
+    requires long { 4 ≤ N }
+    requires short { N ≤ 8 }
+    ensures { MatchOption result (IsUnread (number_then word.entry) (Below (2 ^ 8)) bytes.now)
+        (λ r. IsRead (number_then word.entry) (Below (2 ^ 8)) bytes.now r.0 r.1.now) }
+{
+    let Some((worker, rest)) = number_before_short_word(bytes, word) else {
+        return None;
+    };
+    if worker > u8::MAX as u64 {
+        return None;
+    }
+    Some((worker as u8, rest))
+}
+
+#[cfg(test)]
+mod tests;

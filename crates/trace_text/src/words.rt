@@ -1,11 +1,11 @@
 //! Words that lines of a trace end with, or that stand between two numbers of them, with what is fixed behind them.
-ghost use Rattle.std.specs.Prelude.{MatchOption, ◌++◌, codes};
+ghost use Rattle.std.specs.Prelude.{MatchOption, ◌^◌, ◌++◌, codes};
 ghost use Rattle.executor_core.specs.Said.{message_of};
 ghost use Rattle.trace_text.specs.Spelling.{message_text, FitsMessage, outcome_text, FitsOutcome, kind_text, refusal_text, effect_text, whether_text};
 ghost use Rattle.sched_time.specs.Policies.{policy_text, truth_text};
-ghost use Rattle.trace_text.specs.Reading.{IsRead, IsUnread, Any, text_then};
+ghost use Rattle.trace_text.specs.Reading.{IsRead, IsUnread, Any, Below, number_then, text_then};
 
-use crate::scan::{code_before, number_before, strip, strip_word};
+use crate::scan::{code_before, number_before, strip, strip_short_word, strip_word};
 use executor_core::{CancelEffect, EventError, Kind, Outcome, Refusal, Said};
 use sched_time::Which;
 
@@ -38,14 +38,18 @@ pub fn split_outcome(bytes: &[u8]) -> Option<(Outcome, &[u8])>
         };
         return Some((Outcome::Done(value), rest));
     }
-    if let Some(rest) = strip_word(bytes, *b"again due ") {
+    // Two short words take fewer steps than the long one that they make.
+    if let Some(rest) = strip_short_word(bytes, *b"again ") {
+        let Some(rest) = strip_short_word(rest, *b"due ") else {
+            return None;
+        };
         let Some((due, rest)) = number_before(rest, b"\n") else {
             return None;
         };
         return Some((Outcome::Again(due), rest));
     }
     if let Some(rest) = strip_word(bytes, *b"failed ") {
-        let Some((code, rest)) = code_before(rest, b"\n") else {
+        let Some((code, rest)) = code_alone(rest) else {
             return None;
         };
         return Some((Outcome::Failed(code), rest));
@@ -57,6 +61,16 @@ pub fn split_outcome(bytes: &[u8]) -> Option<(Outcome, &[u8])>
         return Some((Outcome::Ended, rest));
     }
     None
+}
+
+/// The code at the front, to the newline, and what follows it: by a call, since few runs fail, which keeps the reading of a line
+/// small.
+#[cold]
+fn code_alone(bytes: &[u8]) -> Option<(u32, &[u8])>
+    ensures { MatchOption result (IsUnread (number_then (codes "\n")) (Below (2 ^ 32)) bytes.now)
+        (λ r. IsRead (number_then (codes "\n")) (Below (2 ^ 32)) bytes.now r.0 r.1.now) }
+{
+    code_before(bytes, b"\n")
 }
 
 /// The kind of a task, to ` due `, and what follows that.
@@ -82,7 +96,7 @@ pub fn split_refusal(bytes: &[u8]) -> Option<(Refusal, &[u8])>
     ensures { MatchOption result (IsUnread (text_then refusal_text (codes "\n")) Any bytes.now)
         (λ r. IsRead (text_then refusal_text (codes "\n")) Any bytes.now r.0 r.1.now) }
 {
-    if let Some(rest) = strip_word(bytes, *b"illegal\n") {
+    if let Some(rest) = strip_short_word(bytes, *b"illegal\n") {
         return Some((Refusal::Illegal, rest));
     }
     if let Some(rest) = strip_word(bytes, *b"rejected\n") {
@@ -96,13 +110,13 @@ pub fn split_effect(bytes: &[u8]) -> Option<(CancelEffect, &[u8])>
     ensures { MatchOption result (IsUnread (text_then effect_text (codes "\n")) Any bytes.now)
         (λ r. IsRead (text_then effect_text (codes "\n")) Any bytes.now r.0 r.1.now) }
 {
-    if let Some(rest) = strip_word(bytes, *b"yes\n") {
+    if let Some(rest) = strip_short_word(bytes, *b"yes\n") {
         return Some((CancelEffect::Yes, rest));
     }
     if let Some(rest) = strip(bytes, b"no\n") {
         return Some((CancelEffect::No, rest));
     }
-    if let Some(rest) = strip_word(bytes, *b"none\n") {
+    if let Some(rest) = strip_short_word(bytes, *b"none\n") {
         return Some((CancelEffect::Absent, rest));
     }
     None
@@ -123,13 +137,13 @@ fn split_policy_word(bytes: &[u8]) -> Option<(Which, &[u8])>
     ensures { MatchOption result (IsUnread policy_text Any bytes.now)
         (λ r. IsRead policy_text Any bytes.now r.0 r.1.now) }
 {
-    if let Some(rest) = strip_word(bytes, CONTINUE) {
+    if let Some(rest) = strip_short_word(bytes, CONTINUE) {
         return Some((Which::Continue, rest));
     }
-    if let Some(rest) = strip_word(bytes, EXECUTE) {
+    if let Some(rest) = strip_short_word(bytes, EXECUTE) {
         return Some((Which::Execute, rest));
     }
-    if let Some(rest) = strip_word(bytes, REMOVE) {
+    if let Some(rest) = strip_short_word(bytes, REMOVE) {
         return Some((Which::Remove, rest));
     }
     None
@@ -140,10 +154,10 @@ pub fn split_truth(bytes: &[u8]) -> Option<(bool, &[u8])>
     ensures { MatchOption result (IsUnread (text_then truth_text (codes "\n")) Any bytes.now)
         (λ r. IsRead (text_then truth_text (codes "\n")) Any bytes.now r.0 r.1.now) }
 {
-    if let Some(rest) = strip_word(bytes, *b"true\n") {
+    if let Some(rest) = strip_short_word(bytes, *b"true\n") {
         return Some((true, rest));
     }
-    if let Some(rest) = strip_word(bytes, *b"false\n") {
+    if let Some(rest) = strip_short_word(bytes, *b"false\n") {
         return Some((false, rest));
     }
     None
@@ -171,13 +185,13 @@ pub fn split_error(bytes: &[u8]) -> Option<(Said, &[u8])>
         (λ r. IsRead message_text FitsMessage (codes " error " ++ bytes.now) (message_of r.0)
         r.1.now) }
 {
-    if let Some(rest) = strip_word(bytes, *b"busy\n") {
+    if let Some(rest) = strip_short_word(bytes, *b"busy\n") {
         return Some((Said::Error(EventError::Busy), rest));
     }
     if let Some(rest) = strip_word(bytes, *b"backward\n") {
         return Some((Said::Error(EventError::Backward), rest));
     }
-    if let Some(rest) = strip_word(bytes, *b"too far\n") {
+    if let Some(rest) = strip_short_word(bytes, *b"too far\n") {
         return Some((Said::Error(EventError::TooFar), rest));
     }
     if let Some(rest) = strip_word(bytes, *b"no worker\n") {
@@ -186,8 +200,11 @@ pub fn split_error(bytes: &[u8]) -> Option<(Said, &[u8])>
     if let Some(rest) = strip_word(bytes, *b"not running\n") {
         return Some((Said::Error(EventError::NotRunning), rest));
     }
-    if let Some(rest) = strip_word(bytes, *b"no task\n") {
+    if let Some(rest) = strip_short_word(bytes, *b"no task\n") {
         return Some((Said::Error(EventError::NoTask), rest));
     }
     None
 }
+
+#[cfg(test)]
+mod tests;

@@ -1,4 +1,5 @@
--- What no public clause of this crate, or of those above it, leads to: means of its own contracts and proofs.
+-- What no public clause of this crate, or of those above it, leads to but through the invariant of a type: means of its
+-- own contracts and proofs.
 pub mod Moves
 pub mod Steps
 pub mod Results

@@ -1,6 +1,6 @@
 -- What stays true of each core: its invariant, and what it rests on. No contract of a public call cites it but through
 -- the invariant of `Core`. All of it is this project's rule.
-use Rattle.std.specs.Prelude.{◌≡◌, ◌≢◌, ℕ, ◌<◌, ◌≤◌, true, false, if◌then◌else◌, List, length, map, take, Option, Some, None, slice_get, slice_index_or}
+use Rattle.std.specs.Prelude.{◌≡◌, ◌≢◌, ℕ, ◌<◌, ◌≤◌, Bool, true, false, if◌then◌else◌, List, length, map, take, Option, Some, None, slice_get, slice_index_or}
 use Rattle.sched_time.specs.Times.{longest}
 use Rattle.sched_time.specs.declared.timing.Timing.TheVariants as t
 use Rattle.executor_core.specs.declared.task.Stage.{Stage}
@@ -10,7 +10,6 @@ use Rattle.queue_code.specs.Calls.{Planned, IsPlanned, task_count, terms_of, due
 use Rattle.executor_core.specs.Counts.{most_workers}
 use Rattle.executor_core.specs.View.{View}
 use Rattle.executor_core.specs.State.{State, view_of_state, vacant}
-use Rattle.executor_core.specs.own.Sought.{Sought, AreNoted, OnlyThese}
 use Rattle.executor_core.specs.CoreView.{CoreView, workers_of, state_of}
 
 -- the due moment of a task that waits for a run
@@ -53,8 +52,8 @@ pub record RunsBelow (count : ℕ) (tasks : List Task) : Type 0 where
   pub all : (k : ℕ) → (slice_index_or tasks k vacant).run ≤ count
   pub begun : (k : ℕ) → (slice_index_or tasks k vacant).phase ≡ ph.Running → (slice_index_or tasks k vacant).run < count
 
--- what stays true of a core, with the entries of its two queues by task number, and what sweeps have looked for
-pub record IsWellFormedCore (m : CoreView) (entries kept : List (Option ℕ)) (sought : Sought) : Type 0 where
+-- what stays true of a core, with the entries of its two queues by task number, and whether a sweep has looked for delayed tasks
+pub record IsWellFormedCore (m : CoreView) (entries kept : List (Option ℕ)) (sought : Bool) : Type 0 where
   pub orderly : IsPlanned m.calls
   pub made : m.made ≤ length m.calls
   pub some : 0 < workers_of m
@@ -68,10 +67,7 @@ pub record IsWellFormedCore (m : CoreView) (entries kept : List (Option ℕ)) (s
   pub keeping : kept ≡ map held m.tasks
   pub timing : TimingsAgree m.calls (state_of m)
   -- once the delayed tasks were ended, none comes
-  pub delayed : sought.delayed ≡ true → (m.shut ≡ true) × NoneDelayed (state_of m)
-  -- once the periodic tasks that waited were ended, only those that ran then go on
-  pub periodic : sought.periodic ≡ true → (m.shut ≡ true) × OnlyThese sought.going (state_of m)
-  pub noted : AreNoted sought (length m.tasks) (workers_of m)
+  pub delayed : sought ≡ true → (m.shut ≡ true) × NoneDelayed (state_of m)
   -- what no call made submits is vacant
   pub fresh : (k : ℕ) → task_count (take m.made m.calls) ≤ k → slice_index_or m.tasks k vacant ≡ vacant
   pub sound : IsSound (state_of m)

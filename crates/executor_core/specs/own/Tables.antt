@@ -67,16 +67,6 @@ waits_with task = is_waiting_phase task.phase && not task.cancelled
 abbrev pub cancelled_task : Bool → Task → Task
 cancelled_task removes task = record task { cancelled = true; kept = task.kept || (is_waiting_phase task.phase && not removes) }
 
--- a task in this phase waits for a run, or has one under way
-abbrev pub is_live_phase : Stage → Bool
-is_live_phase ph.Waiting = true
-is_live_phase ph.Running = true
-is_live_phase _ = false
-
--- a task is periodic, waits for a run or has one under way, and is not cancelled
-abbrev pub goes_on : Task → Bool
-goes_on task = is_live_phase task.phase && (not task.cancelled && is_periodic task.timing)
-
 -- how many periodic tasks wait for a run
 abbrev pub periodic_in : List Task → ℕ
 periodic_in tasks = how_many waits_again tasks

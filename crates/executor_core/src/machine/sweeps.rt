@@ -119,7 +119,7 @@ impl<A: Allocator> Core<A> {
             return !self.queue.is_empty();
         }
         (!self.policies.continues && self.tasks.periodic() > 0)
-            || (!self.policies.executes && !self.sought.delayed())
+            || (!self.policies.executes && !self.sought)
     }
 
     /// Ends each task that a sweep ends, in ascending number.
@@ -130,36 +130,16 @@ impl<A: Allocator> Core<A> {
             + uncancelled_in self.old.tasks }
         ensures capacity { vec_capacity out.new ≡ vec_capacity out.old }
     {
-        let mut task = self.candidate(0);
+        let mut task = 0;
         while task < self.tasks.len() {
             if self.ends_under(task, self.stopped, self.policies, self.moment) {
                 self.end(task, out);
             }
-            task = self.candidate(task + 1);
+            task += 1;
         }
     }
 
-    /// The first task from this number on that a sweep may end, or how many tasks there are where none is left. Once
-    /// sweeps have looked for each sort of tasks that the policies now end, it is one of those that were noted then, unless
-    /// the executor is stopped.
-    fn candidate(&self, from: usize) -> usize
-        requires { from ≤ length self.now.tasks }
-        ensures from { from ≤ result }
-        ensures within { result ≤ length self.now.tasks }
-        ensures passed { (k : ℕ) → from ≤ k → k < result
-            → is_swept self.now.calls (view_of_state self.now.calls (state_of self.now))
-            self.now.policies k ≡ false }
-    {
-        if self.stopped {
-            return from;
-        }
-        if self.sought.periodic() && (self.policies.executes || self.sought.delayed()) {
-            return self.sought.first_from(from).unwrap_or(self.tasks.len());
-        }
-        from
-    }
-
-    /// Notes what a sweep has looked for and ended, under the present policies.
+    /// Notes that a sweep has ended the delayed tasks, where the policies have it end them.
     fn note_search(&mut self)
         requires shut { self.old.shut ≡ true }
         requires swept { (k : ℕ)
@@ -168,35 +148,8 @@ impl<A: Allocator> Core<A> {
         ensures { self.new ≡ self.old }
     {
         if !self.policies.executes {
-            self.note_delayed();
+            self.sought = true;
         }
-        if !self.policies.continues {
-            self.note_periodic();
-        }
-    }
-
-    /// Notes that a sweep has ended the delayed tasks.
-    fn note_delayed(&mut self)
-        requires shut { self.old.shut ≡ true }
-        requires policy { self.old.policies.executes ≡ false }
-        requires swept { (k : ℕ)
-            → is_swept self.old.calls (view_of_state self.old.calls (state_of self.old))
-            self.old.policies k ≡ false }
-        ensures { self.new ≡ self.old }
-    {
-        self.sought.note_delayed();
-    }
-
-    /// Notes that a sweep has ended the periodic tasks that waited, and which ones go on, where none did so before.
-    fn note_periodic(&mut self)
-        requires shut { self.old.shut ≡ true }
-        requires policy { self.old.policies.continues ≡ false }
-        requires swept { (k : ℕ)
-            → is_swept self.old.calls (view_of_state self.old.calls (state_of self.old))
-            self.old.policies k ≡ false }
-        ensures { self.new ≡ self.old }
-    {
-        self.sought.note_periodic(&self.tasks);
     }
 
     /// Whether a sweep under these policies, at the moment `now`, ends a task, where the executor is `stopped` or not.

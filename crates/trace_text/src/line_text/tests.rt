@@ -1,5 +1,6 @@
 //! Lines of a trace by hand.
-use crate::line_text::write_line;
+use crate::line_text::{LINE_ROOM, put_line_here, write_line};
+use crate::stamp::Stamp;
 use executor_core::{Answer, CancelEffect, EventError, Kind, Line, Message, Outcome, Refusal};
 use sched_time::Which;
 use std::process::Abort;
@@ -14,9 +15,13 @@ fn writes(rt: &(impl AllocGlobal + Abort), moment: u64, answer: Answer, text: &s
 /// Checks the text of one line.
 fn writes_message(rt: &(impl AllocGlobal + Abort), moment: u64, message: Message, text: &str) {
     let mut out = Vec::new(rt.alloc());
-    let said = write_line(&mut out, &Line::new(moment, message));
+    let line = Line::new(moment, message);
+    let said = write_line(&mut out, &line);
     assert!(rt; said.is_ok(), "{text}");
     assert!(rt; out.as_slice() == text.as_bytes(), "{text}");
+    let mut buffer = [0u8; LINE_ROOM];
+    let end = put_line_here(&mut buffer, 0, &mut Stamp::new(moment), &line);
+    assert!(rt; &buffer[..end] == text.as_bytes(), "{text}");
 }
 
 #[test]

@@ -13,29 +13,29 @@ returns-in_default c =
     unread_finish c.args.bytes.now
     (first_part decimal (Below (2 ^ 8)) (codes " task ") task_ended_text FitsTaskEnded c.args.bytes.now c.in_default.ensures)
 
-pub returns-in_default-code_before : goal.returns-in_default-code_before
-returns-in_default-code_before c =
+pub returns-in_default-code_before_short_word : goal.returns-in_default-code_before_short_word
+returns-in_default-code_before_short_word c =
     unread_finish c.args.bytes.now
     (behind_ended_worker c.args.bytes.now c.in-Some.rest.now c.in-Some.worker c.in-Some.ensures
-    (first_part decimal (Below (2 ^ 32)) (codes " run ") ended_text FitsEnded c.in-Some.rest.now c.in_default-code_before.ensures))
+    (first_part decimal (Below (2 ^ 32)) (codes " run ") ended_text FitsEnded c.in-Some.rest.now c.in_default-code_before_short_word.ensures))
 
 pub returns-in_default-number_before : goal.returns-in_default-number_before
 returns-in_default-number_before c =
     unread_finish c.args.bytes.now
     (behind_ended_worker c.args.bytes.now c.in-Some.rest.now c.in-Some.worker c.in-Some.ensures
-    (behind_ended_task c.in-Some.rest.now c.in-Some-code_before.rest.now c.in-Some-code_before.task c.in-Some-code_before.ensures
-    (first_part decimal (Below (2 ^ 64)) (codes " ") outcome_words FitsOutcome c.in-Some-code_before.rest.now c.in_default-number_before.ensures)))
+    (behind_ended_task c.in-Some.rest.now c.in-Some-code_before_short_word.rest.now c.in-Some-code_before_short_word.task c.in-Some-code_before_short_word.ensures
+    (first_part decimal (Below (2 ^ 64)) (codes " ") outcome_words FitsOutcome c.in-Some-code_before_short_word.rest.now c.in_default-number_before.ensures)))
 
 pub returns-in_default-split_outcome : goal.returns-in_default-split_outcome
 returns-in_default-split_outcome c =
     unread_finish c.args.bytes.now
     (behind_ended_worker c.args.bytes.now c.in-Some.rest.now c.in-Some.worker c.in-Some.ensures
-    (behind_ended_task c.in-Some.rest.now c.in-Some-code_before.rest.now c.in-Some-code_before.task c.in-Some-code_before.ensures
-    (behind_ended_run c.in-Some-code_before.rest.now c.in-Some-number_before.rest.now c.in-Some-number_before.run' c.in-Some-number_before.ensures
+    (behind_ended_task c.in-Some.rest.now c.in-Some-code_before_short_word.rest.now c.in-Some-code_before_short_word.task c.in-Some-code_before_short_word.ensures
+    (behind_ended_run c.in-Some-code_before_short_word.rest.now c.in-Some-number_before.rest.now c.in-Some-number_before.run' c.in-Some-number_before.ensures
     (unread_outcome c.in-Some-number_before.rest.now c.in_default-split_outcome.ensures))))
 
 pub returns : goal.returns
 returns c =
     rw c.finish.ensures.message
-    (read_finish c.args.bytes.now c.in-Some.rest.now c.in-Some-code_before.rest.now c.in-Some-number_before.rest.now c.in-Some-split_outcome.rest.now c.in-Some.worker c.in-Some-code_before.task
-    c.in-Some-number_before.run' c.in-Some-split_outcome.outcome c.in-Some.ensures c.in-Some-code_before.ensures c.in-Some-number_before.ensures c.in-Some-split_outcome.ensures)
+    (read_finish c.args.bytes.now c.in-Some.rest.now c.in-Some-code_before_short_word.rest.now c.in-Some-number_before.rest.now c.in-Some-split_outcome.rest.now c.in-Some.worker c.in-Some-code_before_short_word.task
+    c.in-Some-number_before.run' c.in-Some-split_outcome.outcome c.in-Some.ensures c.in-Some-code_before_short_word.ensures c.in-Some-number_before.ensures c.in-Some-split_outcome.ensures)

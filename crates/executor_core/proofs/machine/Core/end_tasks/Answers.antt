@@ -1,12 +1,12 @@
 use Rattle.std.proofs.Common.{◌≡◌, ◌+◌, ◌<◌, length, true, refl, ap, sym, ◌∙◌, arith, subst}
 use Rattle.std.specs.Prelude.{slice_index_or, slice_set, vec_len, vec_capacity}
+use Rattle.std.proofs.lemmas.List.{length-set}
 use Rattle.executor_core.specs.Answers.{is_swept}
 use Rattle.executor_core.specs.State.{vacant, view_of_state}
 use Rattle.executor_core.specs.Tasks.{uncancelled_in}
 use Rattle.executor_core.specs.CoreView.{CoreView, state_of}
 use Rattle.executor_core.specs.own.OwnSteps.{Ends}
 use Rattle.executor_core.proofs.Sweeping.{sweeps_at, swept_waits_in, waits_uncancelled, uncancelled_less, ends_none, ends_more, ends_not}
-use Rattle.executor_core.proofs.Noting.{ends_passed}
 use Rattle.executor_core.proofs.machine.Core.end_tasks.Goals as goal
 use Rattle.executor_core.proofs.machine.Core.end_tasks.Goals.{then-ends_under, else-ends_under}
 
@@ -15,8 +15,8 @@ loop-task-init g c =
     let old = c.args.self.now in
     let before = c.args.out.now.items in
     record {
-      within = c.candidate-task.ensures.within;
-      ends = ends_passed old old before before 0 c.candidate-task.result (ends_none old before) (omega arith) c.candidate-task.ensures.passed;
+      within = omega arith;
+      ends = ends_none old before;
       room = omega arith;
       capacity = refl;
     }
@@ -50,8 +50,8 @@ loop-task-preserved g c =
           let long : vec_len c.if-ends_under.out ≡ vec_len c.loop-task.out + 1 = (λ i. vec_len (w.out-is i)) ∙ w.end.ensures.len in
           let left : uncancelled_in c.if-ends_under.self.tasks ≡ uncancelled_in (slice_set cur.tasks k (record (slice_index_or cur.tasks k vacant) { cancelled = true })) = ap (λ (x : CoreView). uncancelled_in x.tasks) same in
           record {
-            within = c.candidate-task-in-loop-task.ensures.within;
-            ends = ends_passed c.args.self.now c.if-ends_under.self c.args.out.now.items c.if-ends_under.out.items (k + 1) c.candidate-task-in-loop-task.result ends c.candidate-task-in-loop-task.ensures.from c.candidate-task-in-loop-task.ensures.passed;
+            within = omega (arith, low, ap (λ (x : CoreView). length x.tasks) same, length-set cur.tasks k (record (slice_index_or cur.tasks k vacant) { cancelled = true }));
+            ends = ends;
             room = omega (arith, kept.room, long, left, uncancelled_less cur.tasks k low live);
             capacity = (λ i. vec_capacity (w.out-is i)) ∙ (w.end.ensures.capacity ∙ kept.capacity);
           }
@@ -62,8 +62,8 @@ loop-task-preserved g c =
           let left : uncancelled_in c.if-ends_under.self.tasks ≡ uncancelled_in cur.tasks = ap (λ (x : CoreView). uncancelled_in x.tasks) w.self-is in
           let ends : Ends c.args.self.now c.if-ends_under.self c.args.out.now.items c.if-ends_under.out.items (k + 1) = subst (λ x. Ends c.args.self.now x c.args.out.now.items c.if-ends_under.out.items (k + 1)) (sym w.self-is) (subst (λ l. Ends c.args.self.now cur c.args.out.now.items l (k + 1)) (λ i. (sym w.out-is i).items) still) in
           record {
-            within = c.candidate-task-in-loop-task.ensures.within;
-            ends = ends_passed c.args.self.now c.if-ends_under.self c.args.out.now.items c.if-ends_under.out.items (k + 1) c.candidate-task-in-loop-task.result ends c.candidate-task-in-loop-task.ensures.from c.candidate-task-in-loop-task.ensures.passed;
+            within = omega (arith, low, ap (λ (x : CoreView). length x.tasks) w.self-is);
+            ends = ends;
             room = omega (arith, kept.room, len, left);
             capacity = (λ i. vec_capacity (w.out-is i)) ∙ kept.capacity;
           }

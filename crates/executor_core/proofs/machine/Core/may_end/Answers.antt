@@ -20,7 +20,7 @@ returns-then-not-self-2-clause-none g c = λ sought.
     ]
     in
     subst (λ (x : CoreView). (k : ℕ) → sweeps_at x k ≡ false) c.self.view_is
-    (none_swept _ m.queue.entries m.kept.entries m.sought c.self.invariant c.if-self.false periodic (inr (sym c.delayed.ensures ∙ not_false c.delayed.result sought)))
+    (none_swept _ m.queue.entries m.kept.entries m.sought c.self.invariant c.if-self.false periodic (inr (not_false m.sought sought)))
 
 pub returns-else-not-self-2-clause-none : goal.returns-else-not-self-2-clause-none
 returns-else-not-self-2-clause-none g c = λ runs.

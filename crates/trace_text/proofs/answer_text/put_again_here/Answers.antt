@@ -1,5 +1,5 @@
 use Rattle.trace_text.proofs.Chains.{next}
-use Rattle.trace_text.proofs.answer_text.put_again.Goals as goal
+use Rattle.trace_text.proofs.answer_text.put_again_here.Goals as goal
 
 pub returns-clause-put : goal.returns-clause-put
 returns-clause-put c =
