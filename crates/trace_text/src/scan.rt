@@ -39,7 +39,7 @@ pub fn strip_word<const N: usize>(bytes: &[u8], word: [u8; N]) -> Option<&[u8]>
 }
 
 /// What follows `word`, of 4 to 8 bytes, at the front of `bytes`. `None` exactly when `bytes` does not begin with it. Its first
-/// four are compared at once, and then its last four: less code than [`strip_word`], and fewer steps.
+/// four are compared at once, and then its last four: fewer steps than [`strip_word`] takes, and more code.
 #[inline(always)]
 pub fn strip_short_word<const N: usize>(bytes: &[u8], word: [u8; N]) -> Option<&[u8]>
     requires long { 4 ≤ N }
