@@ -5,8 +5,8 @@ use Rattle.std.proofs.Math.Seq.{take-append_seam}
 use Rattle.std.proofs.lemmas.Bool.{cases_lt}
 use Rattle.std.proofs.lemmas.List.{take-append-le, take-append-drop, drop-append-le}
 use Rattle.std.proofs.lemmas.List.Elements.{All-take}
-use Rattle.executor_core.specs.declared.Event.{Event}
-use Rattle.executor_core.specs.declared.Event.TheVariants as event
+use Rattle.executor_model.specs.declared.Event.{Event}
+use Rattle.executor_model.specs.declared.Event.TheVariants as event
 use Rattle.trace_text.specs.Spelling.{IsLine, event_line, ending_line}
 use Rattle.trace_text.specs.Reading.{IsUnread, IsPart, number_then}
 use Rattle.trace_text.proofs.Clashes.{clashes}

@@ -2,7 +2,7 @@
 ghost use Rattle.call_text.specs.Reading.{IsLiveFront};
 
 use crate::call::{CallLine, split_call};
-use executor_core::Event;
+use executor_model::Event;
 use trace_text::{Front, front_event};
 
 /// What stands at the front of some bytes.

@@ -1,6 +1,6 @@
 //! The examples of the comments, as they stand there: `tools/docs` compares them.
 use crate::{CallLine, LiveFront, front_line, read_call, split_call};
-use executor_core::Event;
+use executor_model::Event;
 
 #[test]
 fn the_page_is_run(rt: HostRuntime) {

@@ -5,15 +5,16 @@ use Rattle.std.specs.Prelude.{slice_index_or, not}
 use Rattle.std.proofs.Math.ListN.{set}
 use Rattle.task_word.specs.Words.{Parts}
 use Rattle.queue_code.specs.Calls.{how_many}
-use Rattle.executor_core.specs.declared.task.Task.{Task}
+use Rattle.executor_model.specs.declared.task.Task.{Task}
 use Rattle.executor_core.specs.declared.tallies.Tallies.{Tallies}
 use Rattle.executor_core.specs.declared.tasks.Detail.{Detail}
-use Rattle.executor_core.specs.declared.types.Outcome.{Outcome}
-use Rattle.executor_core.specs.declared.types.Outcome.TheVariants as o
-use Rattle.executor_core.specs.State.{vacant, end_task}
-use Rattle.executor_core.specs.Tasks.{uncancelled_in}
-use Rattle.executor_core.specs.declared.task.Stage.TheVariants as ph
-use Rattle.executor_core.specs.own.Tables.{tasks_in_tables, running_in, periodic_in, is_running_phase, is_waiting_phase, is_periodic, is_again, waits_again, one, Count, IsRecount, AreTallies, TablesAgree}
+use Rattle.executor_model.specs.declared.types.Outcome.{Outcome}
+use Rattle.executor_model.specs.declared.types.Outcome.TheVariants as o
+use Rattle.executor_model.specs.State.{vacant, end_task}
+use Rattle.executor_model.specs.Tasks.{uncancelled_in}
+use Rattle.executor_model.specs.declared.task.Stage.TheVariants as ph
+use Rattle.executor_core.specs.own.Tables.{tasks_in_tables, running_in, periodic_in, is_again, one, Count, IsRecount, AreTallies, TablesAgree}
+use Rattle.executor_model.specs.own.Phases.{is_running_phase, is_waiting_phase, is_periodic, waits_again}
 use Rattle.executor_core.proofs.Pairs.{length_of}
 
 -- the first task counts for itself

@@ -5,16 +5,17 @@ use Rattle.sched_time.specs.declared.timing.Ending.{Ending}
 use Rattle.sched_time.specs.declared.timing.Ending.TheVariants as e
 use Rattle.sched_time.specs.declared.timing.Timing.{Timing}
 use Rattle.sched_time.specs.declared.timing.Timing.TheVariants as t
-use Rattle.executor_core.specs.declared.task.Task.{Task}
-use Rattle.executor_core.specs.declared.types.Outcome.{Outcome}
-use Rattle.executor_core.specs.Answers.{outcome_in, stops_periodic}
-use Rattle.executor_core.specs.own.Tables.{is_again, is_periodic}
-use Rattle.executor_core.specs.declared.types.Happening.TheVariants as h
+use Rattle.executor_model.specs.declared.task.Task.{Task}
+use Rattle.executor_model.specs.declared.types.Outcome.{Outcome}
+use Rattle.executor_model.specs.Answers.{outcome_in, stops_periodic}
+use Rattle.executor_core.specs.own.Tables.{is_again}
+use Rattle.executor_model.specs.own.Phases.{is_periodic}
+use Rattle.executor_model.specs.declared.types.Happening.TheVariants as h
 use Rattle.executor_core.specs.declared.foreseen.RunEnd.{RunEnd}
-use Rattle.executor_core.specs.State.{vacant, due_past, reply_of}
+use Rattle.executor_model.specs.State.{vacant, due_past, reply_of}
 use Rattle.executor_core.specs.Foresight.{run_end, end_of_work, end_in}
 use Rattle.executor_core.specs.CoreView.{CoreView, workers_of, state_of}
-use Rattle.executor_core.specs.declared.types.Answer.TheVariants as a
+use Rattle.executor_model.specs.declared.types.Answer.TheVariants as a
 use Rattle.executor_core.specs.own.Invariants.{IsWellFormedCore}
 use Rattle.executor_core.proofs.RunSteps.{Ran, finish_takes, finished_in}
 

@@ -1,15 +1,15 @@
 -- The steps of an event.
 use Rattle.std.proofs.Common.{◌≡◌, ◌+◌, List, [], ◌∷◌, ◌++◌, sym, ap, ◌∙◌, subst}
-use Rattle.executor_core.specs.declared.types.Event.{Event}
-use Rattle.executor_core.specs.declared.types.Happening.{Happening}
-use Rattle.executor_core.specs.declared.types.Answer.{Answer}
-use Rattle.executor_core.specs.declared.types.Line.{Line}
+use Rattle.executor_model.specs.declared.types.Event.{Event}
+use Rattle.executor_model.specs.declared.types.Happening.{Happening}
+use Rattle.executor_model.specs.declared.types.Answer.{Answer}
+use Rattle.executor_model.specs.declared.types.Line.{Line}
 use Rattle.queue_code.specs.Calls.{IsOrderly}
-use Rattle.executor_core.specs.Histories.{HistoryEntry, IsHistoryOf}
-use Rattle.executor_core.specs.Flows.{part_of, answer_line, lines_at}
+use Rattle.executor_model.specs.Histories.{HistoryEntry, IsHistoryOf}
+use Rattle.executor_model.specs.Flows.{part_of, answer_line, lines_at}
 use Rattle.executor_core.specs.CoreView.{CoreView, workers_of, Counts, Steps, Stands, Continues}
 use Rattle.executor_core.specs.own.OwnSteps.{Takes}
-use Rattle.executor_core.proofs.Flowing.{core_continues}
+use Rattle.executor_core.proofs.Continuing.{core_continues}
 
 -- one step with its line
 pub one_step : (old new : CoreView) (before lines : List Line) (happening : Happening) (answer : Answer) → Takes old new happening answer → lines ≡ before ++ answer_line new.moment answer ∷ [] →

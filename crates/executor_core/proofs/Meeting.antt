@@ -10,13 +10,15 @@ use Rattle.delay_queue.specs.declared.entry.Entry.{Entry}
 use Rattle.delay_queue.specs.Queues as queues
 use Rattle.delay_queue.specs.Queues.{comes_before}
 use Rattle.queue_code.specs.Calls.{Planned, task_count, terms_of, due_at}
-use Rattle.executor_core.specs.declared.task.Stage.TheVariants as ph
-use Rattle.executor_core.specs.declared.task.Task.{Task}
-use Rattle.executor_core.specs.State.{State, vacant, view_of_state, seen_task}
+use Rattle.executor_model.specs.declared.task.Stage.TheVariants as ph
+use Rattle.executor_model.specs.declared.task.Task.{Task}
+use Rattle.executor_model.specs.State.{State, vacant, view_of_state, seen_task}
 use Rattle.executor_core.specs.CoreView.{CoreView, state_of}
-use Rattle.executor_core.specs.own.Invariants.{IsWellFormedCore, IsSound, IsDue, held, queued}
+use Rattle.executor_core.specs.own.Invariants.{IsWellFormedCore}
+use Rattle.executor_model.specs.own.Soundness.{IsSound, IsDue}
+use Rattle.executor_model.specs.own.Phases.{held, queued}
 use Rattle.executor_core.specs.own.OwnSteps.{LeavesMet, is_met}
-use Rattle.executor_core.proofs.Tables.{at_set}
+use Rattle.executor_model.proofs.Tables.{at_set}
 
 -- the queue of kept tasks
 

@@ -13,32 +13,32 @@ use Rattle.queue_code.specs.declared.call.CodeCall.{CodeCall}
 use Rattle.queue_code.specs.declared.call.CodeCall.TheVariants as c
 use Rattle.queue_code.specs.Calls.{Planned, IsOrderly, terms_of, task_count}
 use Rattle.sched_time.specs.declared.policies.Policies.{Policies}
-use Rattle.executor_core.specs.declared.task.Task.{Task}
-use Rattle.executor_core.specs.declared.types.Answer.TheVariants as a
-use Rattle.executor_core.specs.declared.types.Happening.{Happening}
-use Rattle.executor_core.specs.declared.types.Happening.TheVariants as h
-use Rattle.executor_core.specs.declared.types.CancelEffect.{CancelEffect}
-use Rattle.executor_core.specs.declared.types.EventError.TheVariants as x
-use Rattle.executor_core.specs.declared.types.Outcome.{Outcome}
-use Rattle.executor_core.specs.declared.types.Need.{Need}
-use Rattle.executor_core.specs.declared.types.Need.TheVariants as n
-use Rattle.executor_core.specs.View.{is_waiting}
-use Rattle.executor_core.specs.Answers.{bare, called, effect_on, setting_sweeps, is_queued, is_swept, is_ended_by, swept}
-use Rattle.executor_core.specs.Histories.{is_end}
-use Rattle.executor_core.specs.State.{vacant, seen_task, seen_phase, due_seen, due_past, view_of_state}
-use Rattle.executor_core.specs.Histories.{AreMade}
-use Rattle.executor_core.specs.own.Tables.{waits_with}
-use Rattle.executor_core.specs.Needs.{need_of, need_of_answer, need_of_cancel, need_of_finish, IsRipe}
+use Rattle.executor_model.specs.declared.task.Task.{Task}
+use Rattle.executor_model.specs.declared.types.Answer.TheVariants as a
+use Rattle.executor_model.specs.declared.types.Happening.{Happening}
+use Rattle.executor_model.specs.declared.types.Happening.TheVariants as h
+use Rattle.executor_model.specs.declared.types.CancelEffect.{CancelEffect}
+use Rattle.executor_model.specs.declared.types.EventError.TheVariants as x
+use Rattle.executor_model.specs.declared.types.Outcome.{Outcome}
+use Rattle.executor_model.specs.declared.types.Need.{Need}
+use Rattle.executor_model.specs.declared.types.Need.TheVariants as n
+use Rattle.executor_model.specs.View.{is_waiting}
+use Rattle.executor_model.specs.Answers.{bare, called, effect_on, setting_sweeps, is_queued, is_swept, is_ended_by, swept}
+use Rattle.executor_model.specs.Histories.{is_end, AreMade}
+use Rattle.executor_model.specs.State.{vacant, seen_task, seen_phase, due_seen, due_past, view_of_state}
+use Rattle.executor_model.specs.own.Phases.{waits_with, queued_phase, held}
+use Rattle.executor_model.specs.Needs.{need_of, need_of_answer, need_of_cancel, need_of_finish, IsRipe}
 use Rattle.executor_core.specs.CoreView.{CoreView, workers_of, state_of}
-use Rattle.executor_core.specs.own.Invariants.{IsWellFormedCore, queued_phase, held}
-use Rattle.executor_core.proofs.Calling.{view_at}
+use Rattle.executor_core.specs.own.Invariants.{IsWellFormedCore}
+use Rattle.executor_model.proofs.Called.{view_at}
 use Rattle.executor_core.proofs.Opens.{tells_none}
-use Rattle.executor_core.proofs.Flowing.{all_reached}
-use Rattle.executor_core.proofs.Sound.{is_seen_waiting, waits_in}
-use Rattle.executor_core.proofs.Tables.{queued_at, held_at}
-use Rattle.executor_core.proofs.WorkerSteps.{in_queue, none_is_first, idle_starts}
+use Rattle.executor_model.proofs.Flowing.{all_reached}
+use Rattle.executor_model.proofs.Sound.{is_seen_waiting, waits_in}
+use Rattle.executor_model.proofs.Tables.{queued_at, held_at}
+use Rattle.executor_core.proofs.WorkerSteps.{in_queue, none_is_first}
+use Rattle.executor_model.proofs.Workers.{idle_starts}
 use Rattle.executor_core.proofs.RunSteps.{Gets, Ran, start_needs, finish_takes, finished_in}
-use Rattle.executor_core.proofs.Sweeping.{swept_under, ends_are}
+use Rattle.executor_model.proofs.Swept.{swept_under, ends_are}
 
 -- ---- what the next call moves
 

@@ -6,16 +6,18 @@ use Rattle.std.proofs.lemmas.Bool.{false≢true, le-leb, leb-true, cases_lt}
 use Rattle.std.proofs.lemmas.Bool.Decides.{nat_tests}
 use Rattle.std.proofs.lemmas.List.{length-replicate}
 use Rattle.sched_time.specs.declared.policies.Policies.{Policies}
-use Rattle.executor_core.specs.declared.task.Task.{Task}
-use Rattle.executor_core.specs.declared.task.Stage.TheVariants as ph
+use Rattle.executor_model.specs.declared.task.Task.{Task}
+use Rattle.executor_model.specs.declared.task.Stage.TheVariants as ph
 use Rattle.queue_code.specs.Calls.{Planned, IsOrderly, IsPlanned, IsOrderlyFrom, count_after, how_many, task_count}
-use Rattle.executor_core.specs.Flows.{reached, ReachesNext}
+use Rattle.executor_model.specs.Flows.{reached, ReachesNext}
 use Rattle.sched_time.specs.Policies.{default_policies}
-use Rattle.executor_core.specs.State.{opening, vacant, view_of_state}
+use Rattle.executor_model.specs.State.{opening, vacant, view_of_state}
 use Rattle.executor_core.specs.CoreView.{CoreView, state_of, IsOpening}
-use Rattle.executor_core.specs.own.Invariants.{IsWellFormedCore, IsSound, IsDue, queued, held}
-use Rattle.executor_core.proofs.Agree.{opening_sound}
-use Rattle.executor_core.proofs.Tables.{at_replicate}
+use Rattle.executor_core.specs.own.Invariants.{IsWellFormedCore}
+use Rattle.executor_model.specs.own.Soundness.{IsSound, IsDue}
+use Rattle.executor_model.specs.own.Phases.{queued, held}
+use Rattle.executor_model.proofs.Agree.{opening_sound}
+use Rattle.executor_model.proofs.Tables.{at_replicate}
 
 -- vacant tasks stand in no queue
 

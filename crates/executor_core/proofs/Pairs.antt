@@ -8,14 +8,15 @@ use Rattle.task_word.specs.Words.{Parts}
 use Rattle.task_word.specs.Words as words
 use Rattle.task_word.specs.declared.phases.Phase.{Phase as WordPhase}
 use Rattle.task_word.specs.declared.phases.Phase.TheVariants as w
-use Rattle.executor_core.specs.declared.task.Stage.TheVariants as ph
-use Rattle.executor_core.specs.declared.task.Task.{Task}
+use Rattle.executor_model.specs.declared.task.Stage.TheVariants as ph
+use Rattle.executor_model.specs.declared.task.Task.{Task}
 use Rattle.executor_core.specs.declared.tasks.Detail.{Detail}
-use Rattle.executor_core.specs.declared.types.Outcome.{Outcome}
-use Rattle.executor_core.specs.declared.types.Outcome.TheVariants as o
-use Rattle.executor_core.specs.State.{vacant, submit_task, end_task}
-use Rattle.executor_core.specs.Tasks.{word_phase, word_of_task}
-use Rattle.executor_core.specs.own.Tables.{phase_in, task_of, tasks_in_tables, is_periodic, is_over}
+use Rattle.executor_model.specs.declared.types.Outcome.{Outcome}
+use Rattle.executor_model.specs.declared.types.Outcome.TheVariants as o
+use Rattle.executor_model.specs.State.{vacant, submit_task, end_task}
+use Rattle.executor_model.specs.Tasks.{word_phase, word_of_task}
+use Rattle.executor_core.specs.own.Tables.{phase_in, task_of, tasks_in_tables, is_over}
+use Rattle.executor_model.specs.own.Phases.{is_periodic}
 
 -- the tables have one length, and so have the tasks
 pub length_of : (ws : List Parts) (ds : List Detail) → length ws ≡ length ds → length (tasks_in_tables ws ds) ≡ length ws

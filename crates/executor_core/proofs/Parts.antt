@@ -7,16 +7,16 @@ use Rattle.std.proofs.lemmas.Bool.Decides.{nat_tests}
 use Rattle.std.proofs.lemmas.Option.{slice_get_within}
 use Rattle.sched_time.specs.Times.{longest}
 use Rattle.queue_code.specs.Calls.{Planned, IsOrderly}
-use Rattle.executor_core.specs.declared.types.Event.{Event}
-use Rattle.executor_core.specs.declared.types.Event.TheVariants as v
-use Rattle.executor_core.specs.declared.types.Happening.{Happening}
-use Rattle.executor_core.specs.declared.types.Happening.TheVariants as h
-use Rattle.executor_core.specs.declared.types.Line.{Line}
-use Rattle.executor_core.specs.Answers.{is_accepted, moment_after}
-use Rattle.executor_core.specs.Histories.{AreMade, MayFrom, made_after}
-use Rattle.executor_core.specs.Flows.{ReachesNext, happening_of, reached, calls_before, part_of, CallComes, EventComes}
+use Rattle.executor_model.specs.declared.types.Event.{Event}
+use Rattle.executor_model.specs.declared.types.Event.TheVariants as v
+use Rattle.executor_model.specs.declared.types.Happening.{Happening}
+use Rattle.executor_model.specs.declared.types.Happening.TheVariants as h
+use Rattle.executor_model.specs.declared.types.Line.{Line}
+use Rattle.executor_model.specs.Answers.{is_accepted, moment_after}
+use Rattle.executor_model.specs.Histories.{AreMade, MayFrom, made_after}
+use Rattle.executor_model.specs.Flows.{ReachesNext, happening_of, reached, calls_before, part_of, CallComes, EventComes}
 use Rattle.executor_core.specs.CoreView.{CoreView, Counts, Steps}
-use Rattle.executor_core.proofs.Flowing.{all_reached}
+use Rattle.executor_model.proofs.Flowing.{all_reached}
 use Rattle.executor_core.proofs.Needing.{all_made}
 use Rattle.executor_core.proofs.Opens.{end_reached, tells_next, tells_none}
 

@@ -6,14 +6,14 @@ use Rattle.std.proofs.Math.Seq.{map-set_same}
 use Rattle.std.proofs.lemmas.Bool.{false≢true, eqb-true, false_from_ne_true}
 use Rattle.std.proofs.lemmas.List.{ext_get_or, length-map, length-set, map-set}
 use Rattle.delay_queue.specs.Queues.{IsEmpty}
-use Rattle.executor_core.specs.declared.task.Task.{Task}
+use Rattle.executor_model.specs.declared.task.Task.{Task}
 use Rattle.queue_code.specs.Calls.{terms_of, due_at}
-use Rattle.executor_core.specs.State.{vacant, seen_task}
-use Rattle.executor_core.specs.own.Tables.{waits_with}
+use Rattle.executor_model.specs.State.{vacant, seen_task}
+use Rattle.executor_model.specs.own.Phases.{waits_with, queued, held}
 use Rattle.executor_core.specs.CoreView.{CoreView}
-use Rattle.executor_core.specs.own.Invariants.{IsWellFormedCore, queued, held}
+use Rattle.executor_core.specs.own.Invariants.{IsWellFormedCore}
 use Rattle.executor_core.specs.own.OwnSteps.{Drops}
-use Rattle.executor_core.proofs.Tables.{at_set, queued_at, held_at}
+use Rattle.executor_model.proofs.Tables.{at_set, queued_at, held_at}
 
 -- tasks that are cancelled, or kept no more
 

@@ -1,13 +1,13 @@
 -- The lines that single happenings may still add.
 use Rattle.std.proofs.Common.{suc, ◌≡◌, ℕ, ◌+◌, ◌≤◌, ◌||◌, Bool, true, false, cond, List, [], ◌∷◌, length, length-append, refl, ap, ◌∙◌, arith}
 use Rattle.std.specs.Prelude.{slice_index_or, not}
-use Rattle.executor_core.specs.declared.types.Happening.{Happening}
-use Rattle.executor_core.specs.declared.types.Line.{Line}
-use Rattle.executor_core.specs.declared.task.Task.{Task}
-use Rattle.executor_core.specs.Flows.{lines_from}
-use Rattle.executor_core.specs.Histories.{cancels, is_call}
-use Rattle.executor_core.specs.State.{State, vacant, reply_of}
-use Rattle.executor_core.specs.Tasks.{uncancelled_in}
+use Rattle.executor_model.specs.declared.types.Happening.{Happening}
+use Rattle.executor_model.specs.declared.types.Line.{Line}
+use Rattle.executor_model.specs.declared.task.Task.{Task}
+use Rattle.executor_model.specs.Flows.{lines_from}
+use Rattle.executor_model.specs.Histories.{cancels, is_call}
+use Rattle.executor_model.specs.State.{State, vacant, reply_of}
+use Rattle.executor_model.specs.Tasks.{uncancelled_in}
 use Rattle.executor_core.specs.CoreView.{CoreView, workers_of, state_of, room_of, Steps}
 
 or_true : (a b : Bool) → b ≡ true → (a || b) ≡ true

@@ -5,20 +5,20 @@ use Rattle.std.specs.Option.{option_map_or}
 use Rattle.sched_time.specs.declared.timing.Timing.{Timing}
 use Rattle.queue_code.specs.declared.call.CodeCall.{CodeCall}
 use Rattle.queue_code.specs.Calls.{Planned, terms_of, task_count}
-use Rattle.executor_core.specs.declared.task.Stage.{Stage}
-use Rattle.executor_core.specs.declared.task.Stage.TheVariants as ph
-use Rattle.executor_core.specs.declared.task.Task.{Task}
-use Rattle.executor_core.specs.declared.types.Answer.{Answer}
-use Rattle.executor_core.specs.declared.types.Answer.TheVariants as a
-use Rattle.executor_core.specs.declared.types.EventError.TheVariants as x
-use Rattle.executor_core.specs.declared.types.Happening.{Happening}
-use Rattle.executor_core.specs.declared.types.Happening.TheVariants as h
-use Rattle.executor_core.specs.declared.types.Line.{Line}
-use Rattle.executor_core.specs.View.{View}
-use Rattle.executor_core.specs.Answers.{bare, called, effect_on}
-use Rattle.executor_core.specs.State.{State, view_of_state, move_task, submit_phase, reply_of}
+use Rattle.executor_model.specs.declared.task.Stage.{Stage}
+use Rattle.executor_model.specs.declared.task.Stage.TheVariants as ph
+use Rattle.executor_model.specs.declared.task.Task.{Task}
+use Rattle.executor_model.specs.declared.types.Answer.{Answer}
+use Rattle.executor_model.specs.declared.types.Answer.TheVariants as a
+use Rattle.executor_model.specs.declared.types.EventError.TheVariants as x
+use Rattle.executor_model.specs.declared.types.Happening.{Happening}
+use Rattle.executor_model.specs.declared.types.Happening.TheVariants as h
+use Rattle.executor_model.specs.declared.types.Line.{Line}
+use Rattle.executor_model.specs.View.{View}
+use Rattle.executor_model.specs.Answers.{bare, called, effect_on}
+use Rattle.executor_model.specs.State.{State, view_of_state, move_task, submit_phase, reply_of}
 use Rattle.executor_core.specs.CoreView.{CoreView, workers_of, state_of, Steps, IsCounted}
-use Rattle.executor_core.proofs.Replies.{IsAnswerTo, by_answer}
+use Rattle.executor_model.proofs.Replies.{IsAnswerTo, by_answer}
 
 -- an answer says that some run was finished
 abbrev pub finishes_some : Answer → Bool

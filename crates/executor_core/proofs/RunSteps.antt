@@ -9,29 +9,33 @@ use Rattle.sched_time.specs.declared.timing.Timing.{Timing}
 use Rattle.sched_time.specs.declared.timing.Timing.TheVariants as t
 use Rattle.sched_time.specs.declared.timing.Ending.{Ending}
 use Rattle.sched_time.specs.declared.timing.Ending.TheVariants as e
-use Rattle.executor_core.specs.declared.types.Happening.{Happening}
-use Rattle.executor_core.specs.declared.types.Happening.TheVariants as h
-use Rattle.executor_core.specs.declared.types.Outcome.{Outcome}
-use Rattle.executor_core.specs.declared.types.Outcome.TheVariants as o
-use Rattle.executor_core.specs.declared.types.Answer.{Answer}
-use Rattle.executor_core.specs.declared.types.Answer.TheVariants as a
-use Rattle.executor_core.specs.declared.task.Stage.{Stage}
-use Rattle.executor_core.specs.declared.task.Stage.TheVariants as ph
-use Rattle.executor_core.specs.declared.task.Task.{Task}
+use Rattle.executor_model.specs.declared.types.Happening.{Happening}
+use Rattle.executor_model.specs.declared.types.Happening.TheVariants as h
+use Rattle.executor_model.specs.declared.types.Outcome.{Outcome}
+use Rattle.executor_model.specs.declared.types.Outcome.TheVariants as o
+use Rattle.executor_model.specs.declared.types.Answer.{Answer}
+use Rattle.executor_model.specs.declared.types.Answer.TheVariants as a
+use Rattle.executor_model.specs.declared.task.Stage.{Stage}
+use Rattle.executor_model.specs.declared.task.Stage.TheVariants as ph
+use Rattle.executor_model.specs.declared.task.Task.{Task}
 use Rattle.delay_queue.specs.declared.entry.Entry.{Entry}
 use Rattle.delay_queue.specs.Queues as queues
 use Rattle.queue_code.specs.Calls.{terms_of, task_count}
-use Rattle.executor_core.specs.Answers.{bare, outcome_in, stops_periodic}
-use Rattle.executor_core.specs.declared.types.Need.TheVariants as n
-use Rattle.executor_core.specs.Needs.{need_of, need_of_answer}
-use Rattle.executor_core.specs.State.{vacant, view_of_state, reply_of, state_after, end_task, due_past}
+use Rattle.executor_model.specs.Answers.{bare, outcome_in, stops_periodic}
+use Rattle.executor_model.specs.declared.types.Need.TheVariants as n
+use Rattle.executor_model.specs.Needs.{need_of, need_of_answer}
+use Rattle.executor_model.specs.State.{vacant, view_of_state, reply_of, state_after, end_task, due_past}
 use Rattle.executor_core.specs.CoreView.{CoreView, workers_of, state_of}
-use Rattle.executor_core.specs.own.Invariants.{IsWellFormedCore, IsSound, IsDue, queued, queued_phase, held}
+use Rattle.executor_core.specs.own.Invariants.{IsWellFormedCore}
+use Rattle.executor_model.specs.own.Soundness.{IsSound, IsDue}
+use Rattle.executor_model.specs.own.Phases.{queued, queued_phase, held}
 use Rattle.executor_core.specs.own.OwnSteps.{Takes, LeavesMet, queued_again, finished_task}
-use Rattle.executor_core.proofs.Agree.{next_sound, next_due_is, still_true}
-use Rattle.executor_core.proofs.Tables.{at_set, runs_set}
+use Rattle.executor_model.proofs.Agree.{next_sound, next_due_is}
+use Rattle.executor_core.proofs.StillTrue.{still_true}
+use Rattle.executor_model.proofs.Tables.{at_set, runs_set}
 use Rattle.executor_core.proofs.Meeting.{sound_apart, due_apart}
-use Rattle.executor_core.proofs.WorkerSteps.{queued_at, by_reply, in_queue, entry_within, idle_starts, task_starts, none_is_first, running, idle_state, started_task, started_apart, start_state, end_keeps, task_finishes, finish_state}
+use Rattle.executor_core.proofs.WorkerSteps.{queued_at, by_reply, in_queue, entry_within, task_starts, none_is_first, running, idle_state, started_task, started_apart, start_state, end_keeps, finish_state}
+use Rattle.executor_model.proofs.Workers.{idle_starts, task_finishes}
 
 -- a step from what is seen of a core is one from the core
 pub of_view : (m old new : CoreView) (happening : Happening) (answer : Answer) → m ≡ old → Takes m new happening answer → Takes old new happening answer

@@ -11,23 +11,25 @@ use Rattle.sched_time.specs.declared.timing.Timing.{Timing}
 use Rattle.sched_time.specs.declared.timing.Timing.TheVariants as t
 use Rattle.queue_code.specs.declared.call.CodeCall.{CodeCall}
 use Rattle.queue_code.specs.declared.call.CodeCall.TheVariants as c
-use Rattle.executor_core.specs.declared.types.Refusal.{Refusal}
-use Rattle.executor_core.specs.declared.types.Refusal.TheVariants as refusal
-use Rattle.executor_core.specs.declared.types.Happening.TheVariants as h
-use Rattle.executor_core.specs.declared.types.Kind.{Kind}
-use Rattle.executor_core.specs.declared.types.Answer.TheVariants as a
-use Rattle.executor_core.specs.declared.task.Task.{Task}
+use Rattle.executor_model.specs.declared.types.Refusal.{Refusal}
+use Rattle.executor_model.specs.declared.types.Refusal.TheVariants as refusal
+use Rattle.executor_model.specs.declared.types.Happening.TheVariants as h
+use Rattle.executor_model.specs.declared.types.Kind.{Kind}
+use Rattle.executor_model.specs.declared.types.Answer.TheVariants as a
+use Rattle.executor_model.specs.declared.task.Task.{Task}
 use Rattle.queue_code.specs.Calls.{Terms, terms_of, due_at, task_count}
-use Rattle.executor_core.specs.Answers.{bare, called, kind_of}
-use Rattle.executor_core.specs.State.{vacant, view_of_state, submit_phase, submit_task}
-use Rattle.executor_core.specs.Tasks.{uncancelled_in}
+use Rattle.executor_model.specs.Answers.{bare, called, kind_of}
+use Rattle.executor_model.specs.State.{vacant, view_of_state, submit_phase, submit_task}
+use Rattle.executor_model.specs.Tasks.{uncancelled_in}
 use Rattle.executor_core.specs.CoreView.{CoreView, workers_of, state_of}
-use Rattle.executor_core.specs.own.Invariants.{IsWellFormedCore, queued, held}
+use Rattle.executor_core.specs.own.Invariants.{IsWellFormedCore}
+use Rattle.executor_model.specs.own.Phases.{queued, held}
 use Rattle.executor_core.specs.own.OwnSteps.{Takes}
-use Rattle.executor_core.proofs.Keeping.{kept_stays}
-use Rattle.executor_core.proofs.Agree.{still_true}
-use Rattle.executor_core.proofs.Tables.{at_set, submission, next_later, runs_set, uncancelled_set}
-use Rattle.executor_core.proofs.Calling.{view_at, called_state, call_reply, call_state, kept_so, passed, passed_steps}
+use Rattle.executor_model.proofs.Keeping.{kept_stays}
+use Rattle.executor_core.proofs.StillTrue.{still_true}
+use Rattle.executor_model.proofs.Tables.{at_set, submission, next_later, runs_set, uncancelled_set}
+use Rattle.executor_model.proofs.Called.{view_at, called_state, call_reply, call_state, kept_so}
+use Rattle.executor_core.proofs.Calling.{passed, passed_steps}
 
 -- a call that is refused
 

@@ -4,82 +4,32 @@ use Rattle.std.specs.Prelude.{slice_get, not, max}
 use Rattle.std.proofs.Math.ListN.{set}
 use Rattle.std.specs.Option.{option_map_or}
 use Rattle.std.proofs.lemmas.Option.{slice_get_within}
-use Rattle.sched_time.specs.declared.timing.Timing.{Timing}
 use Rattle.sched_time.specs.declared.policies.Policies.{Policies}
-use Rattle.executor_core.specs.declared.task.Task.{Task}
-use Rattle.executor_core.specs.declared.types.Answer.{Answer}
-use Rattle.executor_core.specs.declared.types.Answer.TheVariants as a
-use Rattle.executor_core.specs.declared.types.Happening.TheVariants as h
-use Rattle.executor_core.specs.declared.types.Line.{Line}
+use Rattle.executor_model.specs.declared.types.Answer.{Answer}
+use Rattle.executor_model.specs.declared.types.Answer.TheVariants as a
+use Rattle.executor_model.specs.declared.types.Happening.TheVariants as h
+use Rattle.executor_model.specs.declared.types.Line.{Line}
 use Rattle.sched_time.specs.declared.policies.Which.{Which}
 use Rattle.queue_code.specs.declared.call.CodeCall.{CodeCall}
 use Rattle.queue_code.specs.declared.call.CodeCall.TheVariants as c
 use Rattle.queue_code.specs.Calls.{Planned, terms_of, task_count}
-use Rattle.executor_core.specs.Answers.{Reply, bare, called, swept, setting_sweeps}
+use Rattle.executor_model.specs.Answers.{Reply, bare, called, swept, setting_sweeps}
 use Rattle.sched_time.specs.Policies.{set_policy}
-use Rattle.executor_core.specs.Histories.{is_end, cancels, is_sweep, is_shutdown, policies_after, work_after, is_stop}
-use Rattle.executor_core.specs.State.{view_of_state, move_task, state_after, reply_of, next}
-use Rattle.executor_core.specs.Flows.{end_line, answer_line, lines_at}
-use Rattle.executor_core.specs.Tasks.{uncancelled_in}
+use Rattle.executor_model.specs.Histories.{cancels}
+use Rattle.executor_model.specs.State.{view_of_state, state_after, reply_of, next}
+use Rattle.executor_model.specs.Flows.{end_line, answer_line, lines_at}
+use Rattle.executor_model.specs.Tasks.{uncancelled_in}
 use Rattle.executor_core.specs.CoreView.{CoreView, state_of, Steps, room_of, workers_of}
 use Rattle.executor_core.specs.own.OwnSteps.{Sweeps, Takes}
-use Rattle.executor_core.proofs.Keeping.{kept_stays, kept_swept}
-use Rattle.executor_core.proofs.Calling.{view_at, called_state, call_state, call_reply, passed, passed_steps}
+use Rattle.executor_model.proofs.Keeping.{kept_stays, kept_swept}
+use Rattle.executor_model.proofs.Called.{view_at, called_state, call_state, call_reply}
+use Rattle.executor_core.proofs.Calling.{passed, passed_steps}
 use Rattle.executor_core.proofs.Events.{one_step}
-use Rattle.executor_core.proofs.Sweeping.{and_left, sweeps_at, ends_are}
+use Rattle.executor_model.proofs.Swept.{and_left, ends_are, IsSweeping, policy_sweeps, shutdown_sweeps, stop_sweeps}
+use Rattle.executor_core.proofs.Sweeping.{sweeps_at}
 use Rattle.executor_core.proofs.WholeSweeps.{past_unswept}
 
 -- the steps of the calls that sweep
-
--- a call that sweeps: its answer changes no task by itself, and the tasks that it ends are cancelled
-pub record IsSweeping (shut stopped : Bool) (policies : Policies) (answer : Answer) (after : Policies) (stops : Bool) : Type 0 where
-  pub moves : (timing : Timing) (now k : ℕ) (task : Task) → move_task timing now k answer task ≡ task
-  pub cancels : (k : ℕ) (ends : List ℕ) → cancels k answer ends ≡ is_end k ends
-  pub works : (w : ℕ) (work : Option ℕ) → work_after w answer work ≡ work
-  pub sweeps : is_sweep shut answer ≡ true
-  pub sets : policies_after answer policies ≡ after
-  pub shuts : (is_shutdown answer || shut) ≡ true
-  pub stopping : (is_stop answer || stopped) ≡ stops
-
-or_false : (b : Bool) → (b || false) ≡ b
-or_false true = refl
-or_false false = refl
-
--- a call that sets a policy where that sweeps
-pub policy_sweeps : (shut stopped : Bool) (policies : Policies) (which : Which) (value : Bool) → setting_sweeps shut which value ≡ true → IsSweeping shut stopped policies (a.Policy which value) (set_policy which value policies) stopped
-policy_sweeps shut stopped policies which value sweeping = record {
-  moves = λ timing now k task. refl;
-  cancels = λ k ends. or_false (is_end k ends);
-  works = λ w work. refl;
-  sweeps = sweeping;
-  sets = refl;
-  shuts = and_left shut _ sweeping;
-  stopping = refl;
-}
-
--- the first shutdown
-pub shutdown_sweeps : (shut stopped : Bool) (policies : Policies) → shut ≡ false → IsSweeping shut stopped policies a.Shutdown policies stopped
-shutdown_sweeps shut stopped policies unshut = record {
-  moves = λ timing now k task. refl;
-  cancels = λ k ends. or_false (is_end k ends);
-  works = λ w work. refl;
-  sweeps = ap not unshut;
-  sets = refl;
-  shuts = refl;
-  stopping = refl;
-}
-
--- a shutdown at once
-pub stop_sweeps : (shut stopped : Bool) (policies : Policies) → IsSweeping shut stopped policies a.ShutdownNow policies true
-stop_sweeps shut stopped policies = record {
-  moves = λ timing now k task. refl;
-  cancels = λ k ends. or_false (is_end k ends);
-  works = λ w work. refl;
-  sweeps = refl;
-  sets = refl;
-  shuts = refl;
-  stopping = refl;
-}
 
 -- the core at a sweep: its call is made, its policies are set, and it is shut, and maybe stopped
 abbrev pub swept_from : CoreView → ℕ → Policies → Bool → CoreView

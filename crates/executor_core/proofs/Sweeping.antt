@@ -1,5 +1,5 @@
 -- Which tasks a sweep of a core ends, and what has changed once some of them are ended, one after another.
-use Rattle.std.proofs.Common.{zero, suc, ◌≡◌, ◌≢◌, ℕ, ◌+◌, ◌<◌, ◌≤◌, ◌==◌, ◌&&◌, ◌||◌, nat_le, nat_lt, Bool, true, false, cond, List, [], ◌∷◌, ◌++◌, length, map, ◌⊎◌, inl, inr, Option, is_some, add-one, append_assoc, refl, sym, ap, ◌∙◌, arith, subst, None}
+use Rattle.std.proofs.Common.{zero, suc, ◌≡◌, ◌≢◌, ℕ, ◌+◌, ◌<◌, ◌≤◌, ◌==◌, ◌&&◌, ◌||◌, nat_lt, Bool, true, false, cond, List, [], ◌∷◌, ◌++◌, length, map, ◌⊎◌, inl, inr, Option, is_some, append_assoc, refl, sym, ap, ◌∙◌, arith, subst, None}
 use Rattle.std.specs.Prelude.{slice_index_or, not}
 use Rattle.std.specs.List.{filter, range_with_len}
 use Rattle.std.proofs.Math.ListN.{set}
@@ -8,158 +8,29 @@ use Rattle.std.proofs.lemmas.Bool.Decides.{nat_tests}
 use Rattle.std.proofs.lemmas.List.{append-nil, length-set, map-append}
 use Rattle.sched_time.specs.declared.timing.Timing.{Timing}
 use Rattle.sched_time.specs.declared.timing.Timing.TheVariants as how
-use Rattle.sched_time.specs.declared.policies.Policies.{Policies}
-use Rattle.executor_core.specs.declared.task.Stage.{Stage}
-use Rattle.executor_core.specs.declared.task.Stage.TheVariants as ph
-use Rattle.executor_core.specs.declared.task.Task.{Task}
-use Rattle.executor_core.specs.declared.types.Line.{Line}
-use Rattle.queue_code.specs.Calls.{Planned, Terms, terms_of, task_count, submits_task, AreFew, how_many}
-use Rattle.executor_core.specs.View.{is_waiting}
-use Rattle.executor_core.specs.Answers.{is_swept, is_ended_by, swept, bars_runs}
-use Rattle.executor_core.specs.Histories.{is_end}
-use Rattle.executor_core.specs.State.{vacant, seen_task, due_seen, view_of_state}
-use Rattle.executor_core.specs.Flows.{end_line}
-use Rattle.executor_core.specs.Tasks.{uncancelled_in}
-use Rattle.executor_core.specs.own.Tables.{waits_with, waits_again, is_waiting_phase, is_periodic, periodic_in}
+use Rattle.executor_model.specs.declared.task.Task.{Task}
+use Rattle.executor_model.specs.declared.types.Line.{Line}
+use Rattle.queue_code.specs.Calls.{terms_of, how_many}
+use Rattle.executor_model.specs.View.{is_waiting}
+use Rattle.executor_model.specs.Answers.{is_swept, is_ended_by, swept, bars_runs}
+use Rattle.executor_model.specs.State.{vacant, seen_task, view_of_state}
+use Rattle.executor_model.specs.Flows.{end_line}
+use Rattle.executor_model.specs.Tasks.{uncancelled_in}
+use Rattle.executor_model.specs.own.Phases.{waits_with, waits_again, is_waiting_phase, is_periodic, queued, queued_phase}
+use Rattle.executor_core.specs.own.Tables.{periodic_in}
 use Rattle.executor_core.specs.CoreView.{CoreView, state_of}
-use Rattle.executor_core.specs.own.Invariants.{IsWellFormedCore, queued, queued_phase}
+use Rattle.executor_core.specs.own.Invariants.{IsWellFormedCore}
 use Rattle.executor_core.specs.own.OwnSteps.{Ends}
-use Rattle.executor_core.proofs.Tables.{at_set}
-use Rattle.executor_core.proofs.Asking.{seen_waits, count_entries}
+use Rattle.executor_model.proofs.Tables.{at_set}
+use Rattle.executor_core.proofs.Asking.{count_entries}
 use Rattle.delay_queue.specs.Queues.{entry_count}
-
-pub and_none : (b : Bool) → (b && false) ≡ false
-and_none true = refl
-and_none false = refl
-
-and_true : (b : Bool) → (b && true) ≡ b
-and_true true = refl
-and_true false = refl
-
--- which tasks are ended
-
--- a number is one of a filtered list where it is one of the list and passes the test
-end_filter : (test : ℕ → Bool) (ks : List ℕ) (k : ℕ) → is_end k (filter test ks) ≡ (is_end k ks && test k)
-end_filter test [] k = refl
-end_filter test (x ∷ ks) k =
-    let i = end_filter test ks k in
-    let pick : (b e : Bool) → test x ≡ b → (x == k) ≡ e → is_end k (cond b (x ∷ filter test ks) (filter test ks)) ≡ ((e || is_end k ks) && test k) =
-    elim [
-      | true ↦ elim [
-        | true ↦ λ p q. ap (λ b. b || is_end k (filter test ks)) q ∙ sym (sym (ap test (eqb-true x k q)) ∙ p)
-        | false ↦ λ p q. ap (λ b. b || is_end k (filter test ks)) q ∙ i
-      ]
-      | false ↦ elim [
-        | true ↦ λ p q. i ∙ (ap (λ b. is_end k ks && b) (sym (ap test (eqb-true x k q)) ∙ p) ∙ (and_none (is_end k ks) ∙ sym (sym (ap test (eqb-true x k q)) ∙ p)))
-        | false ↦ λ p q. i
-      ]
-    ]
-    in
-    pick (test x) (x == k) refl refl
-
--- a number is one of a range where it is within its ends
-in_range_so : (a n k : ℕ) → is_end k (range_with_len a n) ≡ (nat_le a k && nat_lt k (a + n))
-in_range_so a zero k = grind (arith, nat_tests)
-in_range_so a (suc n) k = grind (arith, nat_tests, in_range_so (a + 1) n k)
-
--- where no number from the end of a range on passes a test, those that pass it are those of the range that do
-pub ends_are : (test : ℕ → Bool) (n k : ℕ) → (n ≤ k → test k ≡ false) → is_end k (filter test (range_with_len 0 n)) ≡ test k
-ends_are test n k none =
-    let within : is_end k (range_with_len 0 n) ≡ nat_lt k n = in_range_so 0 n k ∙ grind (arith, nat_tests) in
-    end_filter test (range_with_len 0 n) k ∙ (ap (λ b. b && test k) within ∙ by (nat_lt k n) refl)
-  where
-    by : (b : Bool) → nat_lt k n ≡ b → (b && test k) ≡ test k
-    by true low = refl
-    by false high = sym (none (grind (arith, nat_tests, high)))
-
--- one number more
-filter_more : (test : ℕ → Bool) (a n j : ℕ) → a + n ≡ j → filter test (range_with_len a (suc n)) ≡ filter test (range_with_len a n) ++ cond (test j) (j ∷ []) []
-filter_more test a zero j at = let same : a ≡ j = omega (arith, at) in ap (λ k. cond (test k) (k ∷ []) []) same
-filter_more test a (suc n) j at = by (test a) _ _ _ (filter_more test (a + 1) n j (omega (arith, at)))
-  where
-    by : (b : Bool) (xs ys zs : List ℕ) → xs ≡ ys ++ zs → cond b (a ∷ xs) xs ≡ cond b (a ∷ ys) ys ++ zs
-    by true xs ys zs same = ap (λ l. a ∷ l) same
-    by false xs ys zs same = same
-
--- the same from the first number on
-pub filter_next : (test : ℕ → Bool) (n : ℕ) → filter test (range_with_len 0 (n + 1)) ≡ filter test (range_with_len 0 n) ++ cond (test n) (n ∷ []) []
-filter_next test n = ap (λ j. filter test (range_with_len 0 j)) (add-one n) ∙ filter_more test 0 n n (omega arith)
-
--- where no number passes a test, none is left
-pub filter_none : (test : ℕ → Bool) (ks : List ℕ) → ((k : ℕ) → test k ≡ false) → filter test ks ≡ []
-filter_none test [] none = refl
-filter_none test (k ∷ ks) none = ap (λ b. cond b (k ∷ filter test ks) (filter test ks)) (none k) ∙ filter_none test ks none
-
--- a task that waits is ended
-
--- both are so
-pub and_left : (b c : Bool) → (b && c) ≡ true → b ≡ true
-and_left true c q = refl
-and_left false c q = q
-
--- the other one too
-pub and_right : (b c : Bool) → (b && c) ≡ true → c ≡ true
-and_right true c q = q
-and_right false c q = absurd (false≢true q)
-
-not_so : (b : Bool) → not b ≡ true → b ≡ false
-not_so true q = absurd (false≢true q)
-not_so false q = refl
-
--- what is not false is true
-pub not_false : (b : Bool) → not b ≡ false → b ≡ true
-not_false true q = refl
-not_false false q = sym q
-
--- a task that waits for a run is not cancelled
-pub waits_uncancelled : (t : Task) → waits_with t ≡ true → t.cancelled ≡ false
-waits_uncancelled t waits = not_so t.cancelled (and_right _ (not t.cancelled) waits)
-
--- a plan has few tasks
-tasks_within : (calls : List Planned) → task_count calls ≤ length calls
-tasks_within [] = omega arith
-tasks_within (p ∷ calls) =
-    let rest = tasks_within calls in
-    let pick : (b : Bool) → cond b (1 + task_count calls) (task_count calls) ≤ suc (length calls) = elim [ true ↦ omega (arith, rest) | false ↦ omega (arith, rest) ] in
-    pick (submits_task p.1)
-
--- few calls submit no more tasks than there may be calls
-pub few_tasks : (calls : List Planned) → AreFew calls → task_count calls ≤ 65536
-few_tasks calls few = omega (arith, few, tasks_within calls)
+use Rattle.executor_model.proofs.Swept.{and_none, and_true, filter_next, and_left, waits_uncancelled, waits_phase, swept_under}
 
 -- a task that is seen to wait
-
--- a task in this phase waits
-phase_waits : (p : Stage) → is_waiting_phase p ≡ true → p ≡ ph.Waiting
-phase_waits ph.Vacant q = absurd (false≢true q)
-phase_waits ph.Waiting q = refl
-phase_waits ph.Running q = absurd (false≢true q)
-phase_waits ph.Done q = absurd (false≢true q)
-phase_waits ph.Failed q = absurd (false≢true q)
-phase_waits ph.Dropped q = absurd (false≢true q)
-
--- a task that waits for a run is in the phase of one
-pub waits_phase : (t : Task) → waits_with t ≡ true → t.phase ≡ ph.Waiting
-waits_phase t waits = phase_waits t.phase (and_left (is_waiting_phase t.phase) _ waits)
 
 -- whether a sweep of a core ends a task
 abbrev pub sweeps_at : CoreView → ℕ → Bool
 sweeps_at m k = is_swept m.calls (view_of_state m.calls (state_of m)) m.policies k
-
--- a sweep under some policies, at some moment, ends a task that waits and that the policies do not let run
-pub swept_under : (terms : Terms) (t : Task) (stopped : Bool) (policies : Policies) (moment : ℕ) → (t.phase ≡ ph.Dropped → t.cancelled ≡ true) → (t.phase ≢ ph.Vacant → t.timing ≡ terms.timing) →
-    (is_waiting (seen_task terms t) && is_ended_by stopped policies moment terms.timing (seen_task terms t).due) ≡ (waits_with t && is_ended_by stopped policies moment t.timing t.due)
-swept_under terms t stopped policies moment over timing =
-    let pick : (b : Bool) → waits_with t ≡ b → (b && is_ended_by stopped policies moment terms.timing (due_seen terms t.phase t.due)) ≡ (b && is_ended_by stopped policies moment t.timing t.due) =
-    elim [
-      | true ↦ λ waits.
-          let phase = waits_phase t waits in
-          let used : t.phase ≢ ph.Vacant = λ q. let clash : ph.Waiting ≡ ph.Vacant = sym phase ∙ q in absurd cc in
-          (λ i. is_ended_by stopped policies moment (sym (timing used) i) (due_seen terms (phase i) t.due))
-      | false ↦ λ idle. refl
-    ]
-    in
-    ap (λ b. b && is_ended_by stopped policies moment terms.timing (due_seen terms t.phase t.due)) (seen_waits terms t over) ∙ pick (waits_with t) refl
 
 -- a sweep ends the tasks that wait and that the policies do not let run
 pub swept_is : (m : CoreView) (entries keeps : List (Option ℕ)) (sought : Bool) (k : ℕ) → IsWellFormedCore m entries keeps sought →

@@ -5,19 +5,21 @@ use Rattle.std.specs.List.{filter, range_with_len}
 use Rattle.std.proofs.lemmas.Bool.{false≢true}
 use Rattle.std.proofs.lemmas.Bool.Decides.{nat_tests}
 use Rattle.std.proofs.lemmas.List.{append-nil, get_or_past}
-use Rattle.executor_core.specs.declared.task.Task.{Task}
-use Rattle.executor_core.specs.declared.types.Line.{Line}
+use Rattle.executor_model.specs.declared.task.Task.{Task}
+use Rattle.executor_model.specs.declared.types.Line.{Line}
 use Rattle.queue_code.specs.Calls.{terms_of, task_count, how_many}
-use Rattle.executor_core.specs.View.{is_running}
-use Rattle.executor_core.specs.Answers.{is_ended_by, swept, bars_runs}
-use Rattle.executor_core.specs.State.{vacant, seen_task}
-use Rattle.executor_core.specs.Flows.{end_line}
-use Rattle.executor_core.specs.Tasks.{uncancelled_in}
-use Rattle.executor_core.specs.own.Tables.{waits_with, is_waiting_phase}
+use Rattle.executor_model.specs.View.{is_running}
+use Rattle.executor_model.specs.Answers.{is_ended_by, swept, bars_runs}
+use Rattle.executor_model.specs.State.{vacant, seen_task}
+use Rattle.executor_model.specs.Flows.{end_line}
+use Rattle.executor_model.specs.Tasks.{uncancelled_in}
+use Rattle.executor_model.specs.own.Phases.{waits_with, is_waiting_phase}
 use Rattle.executor_core.specs.CoreView.{CoreView, state_of}
-use Rattle.executor_core.specs.own.Invariants.{IsWellFormedCore, NoneDelayed}
+use Rattle.executor_core.specs.own.Invariants.{IsWellFormedCore}
+use Rattle.executor_model.specs.own.Soundness.{NoneDelayed}
 use Rattle.executor_core.specs.own.OwnSteps.{Ends, Drops, Sweeps}
-use Rattle.executor_core.proofs.Sweeping.{and_none, filter_none, sweeps_at, swept_is, sweeps_task}
+use Rattle.executor_model.proofs.Swept.{and_none, filter_none}
+use Rattle.executor_core.proofs.Sweeping.{sweeps_at, swept_is, sweeps_task}
 
 -- a whole sweep
 

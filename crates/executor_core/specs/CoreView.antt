@@ -1,19 +1,21 @@
 -- What contracts see of an executor's core, and the state and history in which it stands.
 -- All of it is this project's rule.
-use Rattle.std.specs.Prelude.{◌≡◌, ℕ, ◌+◌, ◌-◌, ◌<◌, ◌≤◌, Bool, true, false, List, [], ◌∷◌, ◌++◌, length, Option, None, slice_index_or}
+use Rattle.std.specs.Prelude.{◌≡◌, ℕ, ◌+◌, ◌-◌, ◌<◌, ◌≤◌, Bool, true, false, List, [], ◌∷◌, ◌++◌, length, Option, None, slice_index_or, if◌then◌else◌}
 use Rattle.sched_time.specs.declared.policies.Policies.{Policies}
-use Rattle.executor_core.specs.declared.types.Event.{Event}
-use Rattle.executor_core.specs.declared.types.Happening.{Happening}
-use Rattle.executor_core.specs.declared.types.Happening.TheVariants as h
-use Rattle.executor_core.specs.declared.types.Line.{Line}
-use Rattle.executor_core.specs.declared.types.EventError.{EventError}
-use Rattle.executor_core.specs.declared.types.Answer.TheVariants as a
-use Rattle.executor_core.specs.declared.task.Task.{Task}
+use Rattle.executor_model.specs.declared.types.Event.{Event}
+use Rattle.executor_model.specs.declared.types.Happening.{Happening}
+use Rattle.executor_model.specs.declared.types.Happening.TheVariants as h
+use Rattle.executor_model.specs.declared.types.Line.{Line}
+use Rattle.executor_model.specs.declared.types.EventError.{EventError}
+use Rattle.executor_model.specs.declared.types.Answer.TheVariants as a
+use Rattle.executor_model.specs.declared.task.Task.{Task}
 use Rattle.queue_code.specs.Calls.{Planned, task_count}
-use Rattle.executor_core.specs.Histories.{HistoryEntry, happenings, IsHistoryOf, MayCome}
-use Rattle.executor_core.specs.State.{State, vacant, after, after_from, reply_of}
-use Rattle.executor_core.specs.Flows.{happening_of, part_of, history_from, answer_line, lines_of, lines_from}
-use Rattle.executor_core.specs.Tasks.{uncancelled_in}
+use Rattle.executor_model.specs.Histories.{HistoryEntry, happenings, IsHistoryOf, MayCome}
+use Rattle.executor_model.specs.State.{State, vacant, after, after_from, reply_of}
+use Rattle.executor_model.specs.Flows.{happening_of, part_of, history_from, answer_line, lines_of, lines_from}
+use Rattle.executor_model.specs.Tasks.{uncancelled_in}
+use Rattle.executor_model.specs.declared.types.Need.{Need}
+use Rattle.executor_model.specs.declared.types.Need.TheVariants as n
 
 -- what contracts see of a core: its plan's calls, how many of them it made, the moment, its two tables, its policies,
 -- and whether it is shut, and stopped
@@ -124,3 +126,7 @@ pub record GivesRoom (old new : CoreView) (lines_before lines_after : ℕ) : Typ
 -- the number of each run is below the number of events taken, as it is once an event is counted
 abbrev pub IsCounted : CoreView → Type 0
 IsCounted m = (k : ℕ) → (slice_index_or m.tasks k vacant).run < m.taken
+
+-- the task that a need starts, if any, has a run below the number of events taken
+abbrev pub RunsBelowTaken : CoreView → Need → Type 0
+RunsBelowTaken m need = (k : ℕ) → need ≡ n.Start k → (slice_index_or m.tasks k vacant).run < m.taken

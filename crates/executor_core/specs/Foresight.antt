@@ -2,14 +2,14 @@
 -- All of it is this project's rule.
 use Rattle.std.specs.Prelude.{ℕ, Option, Some, None, slice_index_or}
 use Rattle.sched_time.specs.declared.timing.Ending.{Ending}
-use Rattle.executor_core.specs.declared.types.Happening.{Happening}
-use Rattle.executor_core.specs.declared.types.Happening.TheVariants as h
+use Rattle.executor_model.specs.declared.types.Happening.{Happening}
+use Rattle.executor_model.specs.declared.types.Happening.TheVariants as h
 use Rattle.executor_core.specs.declared.foreseen.RunEnd.{RunEnd}
 use Rattle.executor_core.specs.declared.foreseen.Foreseen.{Foreseen}
-use Rattle.executor_core.specs.declared.task.Task.{Task}
-use Rattle.executor_core.specs.Answers.{outcome_in, stops_periodic}
-use Rattle.executor_core.specs.State.{vacant, due_past}
-use Rattle.executor_core.specs.Needs.{need_of}
+use Rattle.executor_model.specs.declared.task.Task.{Task}
+use Rattle.executor_model.specs.Answers.{outcome_in, stops_periodic}
+use Rattle.executor_model.specs.State.{vacant, due_past}
+use Rattle.executor_model.specs.Needs.{need_of}
 use Rattle.executor_core.specs.CoreView.{CoreView, workers_of, state_of}
 
 -- the end of the run of task k, as the core holds it

@@ -1,5 +1,5 @@
 //! What one look at a core tells of a happening before it comes.
-use crate::types::{Happening, Need, Outcome};
+use executor_model::{Happening, Need, Outcome};
 
 /// The end of the run of a worker, before it comes.
 #[derive(Clone, Copy, Debug)]

@@ -97,26 +97,19 @@
 
 mod error;
 mod foreseen;
-mod kept;
 mod laws;
-mod limits;
 mod machine;
 mod room;
-mod said;
 mod tallies;
-mod task;
 mod tasks;
-mod types;
 
 pub use error::CoreError;
+pub use executor_model::{
+    Answer, CancelEffect, Event, EventError, Happening, KeptHappening, Kind, Line, MOST_WORKERS,
+    Message, Need, Outcome, Refusal, Said, Stage, Task, line_equality_tells,
+    most_workers_is_the_limit, said_equality_tells,
+};
 pub use foreseen::{Foreseen, RunEnd};
-pub use kept::KeptHappening;
-pub use laws::{line_equality_tells, most_workers_is_the_limit};
-pub use limits::MOST_WORKERS;
+pub use laws::core_error_equality_tells;
 pub use machine::Core;
 pub use room::make_room;
-pub use said::{Said, said_equality_tells};
-pub use task::{Stage, Task};
-pub use types::{
-    Answer, CancelEffect, Event, EventError, Happening, Kind, Line, Message, Need, Outcome, Refusal,
-};

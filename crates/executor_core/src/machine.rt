@@ -1,11 +1,11 @@
 ghost use Rattle.std.specs.Prelude.{◌≡◌, ◌+◌, ◌^◌, ◌<◌, ◌≤◌, ◌↔◌, ◌⊎◌, List, length, map, OnOk, OnErr, IsOk, IfOk, IfErr, IsErrOf, IsTrue, false, vec_len, vec_capacity};
 ghost use Rattle.queue_code.specs.Calls.{task_count};
 ghost use Rattle.queue_code.specs.Codes.{calls_of};
-ghost use Rattle.executor_core.specs.Histories as histories;
+ghost use Rattle.executor_model.specs.Histories as histories;
 ghost use Rattle.sched_time.specs.Times.{longest};
-ghost use Rattle.executor_core.specs.Tasks.{word_of_task};
-ghost use Rattle.executor_core.specs.Counts.{IsWorkerCount};
-ghost use Rattle.executor_core.specs.Flows.{part_of};
+ghost use Rattle.executor_model.specs.Tasks.{word_of_task};
+ghost use Rattle.executor_model.specs.Counts.{IsWorkerCount};
+ghost use Rattle.executor_model.specs.Flows.{part_of};
 
 mod calls;
 mod cancels;
@@ -16,11 +16,10 @@ mod sweeps;
 mod workers;
 
 use crate::error::CoreError;
-use crate::limits::MOST_WORKERS;
 use crate::room::make_room;
 use crate::tasks::Tasks;
-use crate::types::{Event, Happening, Line};
 use delay_queue::DelayQueue;
+use executor_model::{Event, Happening, Line, MOST_WORKERS};
 use queue_code::{Agenda, Code};
 use sched_time::Policies;
 use std::alloc::{AllocError, Allocator};

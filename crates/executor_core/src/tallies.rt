@@ -1,8 +1,9 @@
 //! How many tasks are of some sorts. The numbers are kept beside the tasks, so that no call has to count.
 ghost use Rattle.std.specs.Prelude.{◌≡◌, ◌+◌, ◌-◌, ◌^◌, ◌<◌, ◌≤◌};
-ghost use Rattle.executor_core.specs.own.Tables.{Count, IsRecount, is_periodic, is_running_phase, one, waits_again};
+ghost use Rattle.executor_core.specs.own.Tables.{Count, IsRecount, one};
+ghost use Rattle.executor_model.specs.own.Phases.{is_periodic, is_running_phase, waits_again};
 
-use crate::task::{Stage, Task};
+use executor_model::{Stage, Task};
 use sched_time::Timing;
 
 /// How many tasks are of some sorts.

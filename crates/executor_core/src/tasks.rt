@@ -1,14 +1,14 @@
 //! The tasks of a core: the word of each, and beside it what its word does not say.
 ghost use Rattle.std.specs.Prelude.{◌≡◌, ◌≢◌, ◌+◌, ◌^◌, ◌<◌, ◌↔◌, true, false, length, replicate, map, slice_index_or, slice_set, IfOk, IsTrue};
-ghost use Rattle.executor_core.specs.declared.task.Stage.TheVariants as ph;
-ghost use Rattle.executor_core.specs.declared.types.Outcome.TheVariants as o;
-ghost use Rattle.executor_core.specs.State.{vacant, submit_task, end_task};
-ghost use Rattle.executor_core.specs.Tasks.{word_of_task, uncancelled_in};
-ghost use Rattle.executor_core.specs.own.Tables.{phase_in, running_in, periodic_in, is_periodic, is_again, is_over};
+ghost use Rattle.executor_model.specs.declared.task.Stage.TheVariants as ph;
+ghost use Rattle.executor_model.specs.declared.types.Outcome.TheVariants as o;
+ghost use Rattle.executor_model.specs.State.{vacant, submit_task, end_task};
+ghost use Rattle.executor_model.specs.Tasks.{word_of_task, uncancelled_in};
+ghost use Rattle.executor_core.specs.own.Tables.{phase_in, running_in, periodic_in, is_again, is_over};
+ghost use Rattle.executor_model.specs.own.Phases.{is_periodic};
 
 use crate::tallies::{Tallies, is_periodic};
-use crate::task::{Stage, Task};
-use crate::types::Outcome;
+use executor_model::{Outcome, Stage, Task};
 use sched_time::Timing;
 use std::alloc::{AllocError, Allocator};
 use std::marker::Model;
@@ -37,7 +37,7 @@ pub(crate) struct Tasks<A: Allocator> {
 
 impl<A: Allocator> Model for Tasks<A> {
     ghost use Rattle.std.specs.Prelude.{List};
-    ghost use Rattle.executor_core.specs.declared.task.Task.{Task};
+    ghost use Rattle.executor_model.specs.declared.task.Task.{Task};
     ghost use Rattle.executor_core.specs.own.Tables.{tasks_in_tables, TablesAgree};
 
     ghost Value = { List Task };

@@ -9,19 +9,19 @@ use Rattle.sched_time.specs.declared.policies.Policies.{Policies}
 use Rattle.sched_time.specs.Policies.{set_policy}
 use Rattle.queue_code.specs.declared.call.CodeCall.{CodeCall}
 use Rattle.queue_code.specs.declared.call.CodeCall.TheVariants as c
-use Rattle.executor_core.specs.declared.types.Happening.{Happening}
-use Rattle.executor_core.specs.declared.types.Happening.TheVariants as h
-use Rattle.executor_core.specs.declared.types.EventError.TheVariants as x
-use Rattle.executor_core.specs.declared.types.Refusal.TheVariants as refusal
-use Rattle.executor_core.specs.declared.types.Answer.TheVariants as a
-use Rattle.executor_core.specs.declared.task.Stage.TheVariants as ph
-use Rattle.executor_core.specs.declared.task.Task.{Task}
+use Rattle.executor_model.specs.declared.types.Happening.{Happening}
+use Rattle.executor_model.specs.declared.types.Happening.TheVariants as h
+use Rattle.executor_model.specs.declared.types.EventError.TheVariants as x
+use Rattle.executor_model.specs.declared.types.Refusal.TheVariants as refusal
+use Rattle.executor_model.specs.declared.types.Answer.TheVariants as a
+use Rattle.executor_model.specs.declared.task.Stage.TheVariants as ph
+use Rattle.executor_model.specs.declared.task.Task.{Task}
 use Rattle.queue_code.specs.Calls.{Planned, IsOrderly, IsOrderlyCall, task_count, numbers, how_many, Terms, terms_of, due_at}
-use Rattle.executor_core.specs.View.{Fate, View, is_waiting, is_running, is_enabled, earlier, first_enabled}
-use Rattle.executor_core.specs.Answers.{Reply, bare, called, kind_of, is_swept, swept, is_ended_by, is_queued, is_terminated, setting_sweeps, start_answer, finish_answer, outcome_in, stops_periodic, effect_on}
-use Rattle.executor_core.specs.State.{State, vacant, view_of_state, seen_task, seen_phase, reply_of}
-use Rattle.executor_core.specs.Queues.{comes_before}
-use Rattle.executor_core.proofs.Sound.{first_is_enabled}
+use Rattle.executor_model.specs.View.{Fate, View, is_waiting, is_running, is_enabled, earlier, first_enabled}
+use Rattle.executor_model.specs.Answers.{Reply, bare, called, kind_of, is_swept, swept, is_ended_by, is_queued, is_terminated, setting_sweeps, start_answer, finish_answer, outcome_in, stops_periodic, effect_on}
+use Rattle.executor_model.specs.State.{State, vacant, view_of_state, seen_task, seen_phase, reply_of}
+use Rattle.executor_model.specs.Queues.{comes_before}
+use Rattle.executor_model.proofs.Sound.{first_is_enabled}
 use Rattle.executor_laws.specs.Positions.{IsSubmissionOf}
 use Rattle.executor_laws.proofs.Numbering.{submits_below}
 use Rattle.executor_laws.proofs.AddedCalls.{not_it, same_call, same_terms, same_of_numbers, task_grows, last_filtered, last_counted, last_not_first}

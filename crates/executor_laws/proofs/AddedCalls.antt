@@ -6,7 +6,7 @@ use Rattle.std.proofs.lemmas.Bool.{false≢true, eqb-true, eq-eqb, false_from_ne
 use Rattle.queue_code.specs.declared.call.CodeCall.{CodeCall}
 use Rattle.queue_code.specs.declared.call.CodeCall.TheVariants as c
 use Rattle.queue_code.specs.Calls.{Planned, IsOrderlyFrom, IsOrderlyCall, count_after, submits_task, task_count, numbers, how_many, Terms, terms_of, terms_in}
-use Rattle.executor_core.specs.View.{View, earlier, is_enabled, first_enabled}
+use Rattle.executor_model.specs.View.{View, earlier, is_enabled, first_enabled}
 
 -- ---- the order
 

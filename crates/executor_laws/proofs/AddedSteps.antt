@@ -8,23 +8,23 @@ use Rattle.std.proofs.lemmas.Option.{none-some, same_Some}
 use Rattle.sched_time.specs.declared.timing.Timing.{Timing}
 use Rattle.queue_code.specs.declared.call.CodeCall.{CodeCall}
 use Rattle.queue_code.specs.declared.call.CodeCall.TheVariants as c
-use Rattle.executor_core.specs.declared.types.Happening.{Happening}
-use Rattle.executor_core.specs.declared.types.Happening.TheVariants as h
-use Rattle.executor_core.specs.declared.types.EventError.TheVariants as x
-use Rattle.executor_core.specs.declared.types.Refusal.TheVariants as refusal
-use Rattle.executor_core.specs.declared.types.Answer.{Answer}
-use Rattle.executor_core.specs.declared.types.Answer.TheVariants as a
-use Rattle.executor_core.specs.declared.task.Stage.TheVariants as ph
-use Rattle.executor_core.specs.declared.task.Task.{Task}
+use Rattle.executor_model.specs.declared.types.Happening.{Happening}
+use Rattle.executor_model.specs.declared.types.Happening.TheVariants as h
+use Rattle.executor_model.specs.declared.types.EventError.TheVariants as x
+use Rattle.executor_model.specs.declared.types.Refusal.TheVariants as refusal
+use Rattle.executor_model.specs.declared.types.Answer.{Answer}
+use Rattle.executor_model.specs.declared.types.Answer.TheVariants as a
+use Rattle.executor_model.specs.declared.task.Stage.TheVariants as ph
+use Rattle.executor_model.specs.declared.task.Task.{Task}
 use Rattle.queue_code.specs.Calls.{Planned, IsOrderly, task_count, numbers, Terms, terms_of, due_at}
-use Rattle.executor_core.specs.View.{Fate, is_waiting}
-use Rattle.executor_core.specs.Answers.{Reply, bare, called, kind_of, swept, start_answer, finish_answer, effect_on, moment_after}
-use Rattle.executor_core.specs.Histories.{is_submit, is_start, is_finish, is_cancel, is_end, is_ended, is_finish_with, had_effect, is_sweep, meets, kept_after, work_after, made_after, policies_after, is_shutdown, is_stop, cancels}
-use Rattle.executor_core.specs.State.{State, view_of_state, seen_task, reply_of, next, state_after, task_after, move_task, submit_phase, finish_task}
-use Rattle.executor_core.specs.own.Invariants.{IsSound}
-use Rattle.executor_core.specs.Queues.{comes_before}
-use Rattle.executor_core.proofs.Sound.{Finds, reply_finds}
-use Rattle.executor_core.proofs.Replies.{IsAnswerTo, by_answer, call_ends_waiting}
+use Rattle.executor_model.specs.View.{Fate, is_waiting}
+use Rattle.executor_model.specs.Answers.{Reply, bare, called, kind_of, swept, start_answer, finish_answer, effect_on, moment_after}
+use Rattle.executor_model.specs.Histories.{is_submit, is_start, is_finish, is_cancel, is_end, is_ended, is_finish_with, had_effect, is_sweep, meets, kept_after, work_after, made_after, policies_after, is_shutdown, is_stop, cancels}
+use Rattle.executor_model.specs.State.{State, view_of_state, seen_task, reply_of, next, state_after, task_after, move_task, submit_phase, finish_task}
+use Rattle.executor_model.specs.own.Soundness.{IsSound}
+use Rattle.executor_model.specs.Queues.{comes_before}
+use Rattle.executor_model.proofs.Sound.{Finds, reply_finds}
+use Rattle.executor_model.proofs.Replies.{IsAnswerTo, by_answer, call_ends_waiting}
 -- ---- what it does
 use Rattle.executor_laws.specs.Positions.{IsSubmissionOf}
 use Rattle.executor_laws.proofs.AddedCalls.{not_it, same_call, same_terms}

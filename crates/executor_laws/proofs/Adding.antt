@@ -8,17 +8,17 @@ use Rattle.std.proofs.lemmas.List.{append-nil}
 use Rattle.std.proofs.lemmas.List.Elements.{All-head, All-tail, All-nil, All-cons}
 use Rattle.std.proofs.lemmas.Option.{none-some, same_Some}
 use Rattle.sched_time.specs.Times.{longest}
-use Rattle.executor_core.specs.declared.types.Happening.{Happening}
-use Rattle.executor_core.specs.declared.types.Happening.TheVariants as h
-use Rattle.executor_core.specs.declared.types.EventError.TheVariants as x
-use Rattle.executor_core.specs.declared.types.Answer.{Answer}
-use Rattle.executor_core.specs.declared.types.Answer.TheVariants as a
+use Rattle.executor_model.specs.declared.types.Happening.{Happening}
+use Rattle.executor_model.specs.declared.types.Happening.TheVariants as h
+use Rattle.executor_model.specs.declared.types.EventError.TheVariants as x
+use Rattle.executor_model.specs.declared.types.Answer.{Answer}
+use Rattle.executor_model.specs.declared.types.Answer.TheVariants as a
 use Rattle.queue_code.specs.Calls.{Planned, IsOrderly, IsOrderlyFrom, IsOrderlyCall, count_after, task_count}
-use Rattle.executor_core.specs.Answers.{Reply, moment_after, is_accepted}
-use Rattle.executor_core.specs.Histories.{HistoryEntry, happenings, made, now_of, answer, AreMade, MayFrom, IsHistoryOf}
-use Rattle.executor_core.specs.State.{after, next, reply_of}
-use Rattle.executor_core.specs.Flows.{lines_at, reply_in}
-use Rattle.executor_core.proofs.Agree.{after_agrees, answers_alike}
+use Rattle.executor_model.specs.Answers.{Reply, moment_after, is_accepted}
+use Rattle.executor_model.specs.Histories.{HistoryEntry, happenings, made, now_of, answer, AreMade, MayFrom, IsHistoryOf}
+use Rattle.executor_model.specs.State.{after, next, reply_of}
+use Rattle.executor_model.specs.Flows.{lines_at, reply_in}
+use Rattle.executor_model.proofs.Agree.{after_agrees, answers_alike}
 use Rattle.executor_laws.specs.Additions.{LooksBelow, AllLookBelow, StandsFor, CallsMayBeAdded, ManyCallsMayBeAdded}
 use Rattle.executor_laws.proofs.AddedCalls.{split_orderly, task_grows}
 use Rattle.executor_laws.proofs.AddedAnswers.{IsNext, NotThere, Admits, reply_alike}

@@ -3,11 +3,11 @@ use Rattle.std.proofs.Common.{◌≡◌, ℕ, ◌+◌, ◌<◌, ◌==◌, ◌&&�
 use Rattle.std.specs.Prelude.{◌↔◌, not}
 use Rattle.std.specs.List.{filter}
 use Rattle.std.proofs.lemmas.Bool.{not-true, not-false, and_from, and_parts, or_cases, or_left, or_right, or_parts, or_from, not_from_false, eqb-true, eqb-false, eq-eqb, ne_eqb, lt-ltb}
-use Rattle.executor_core.specs.declared.types.Answer.TheVariants as a
+use Rattle.executor_model.specs.declared.types.Answer.TheVariants as a
 use Rattle.queue_code.specs.Calls.{Planned, how_many, numbers, task_count}
-use Rattle.executor_core.specs.View.{is_running, is_over, is_waiting}
-use Rattle.executor_core.specs.Answers.{reply, is_queued, queue_size, running_count, is_terminated}
-use Rattle.executor_core.specs.Histories.{HistoryEntry, IsHistoryOf, view_of_history, starts, finishes, was_shut}
+use Rattle.executor_model.specs.View.{is_running, is_over, is_waiting}
+use Rattle.executor_model.specs.Answers.{reply, is_queued, queue_size, running_count, is_terminated}
+use Rattle.executor_model.specs.Histories.{HistoryEntry, IsHistoryOf, view_of_history, starts, finishes, was_shut}
 use Rattle.executor_laws.specs.Policies.{KeptSince}
 use Rattle.executor_laws.specs.Asks.{Waits, IsUnderWay, IsCountOf, AsksByPosition}
 use Rattle.executor_laws.proofs.StartLaws.{means_front}

@@ -8,14 +8,14 @@ use Rattle.sched_time.specs.declared.timing.Ending.{Ending}
 use Rattle.queue_code.specs.declared.call.CodeCall.{CodeCall}
 use Rattle.queue_code.specs.declared.call.CodeCall.TheVariants as c
 use Rattle.queue_code.specs.Calls.{Planned, numbers, task_count, terms_of}
-use Rattle.executor_core.specs.declared.types.EventError.TheVariants as x
-use Rattle.executor_core.specs.declared.types.Happening.{Happening}
-use Rattle.executor_core.specs.declared.types.Happening.TheVariants as h
-use Rattle.executor_core.specs.declared.types.Answer.{Answer}
-use Rattle.executor_core.specs.declared.types.Answer.TheVariants as a
-use Rattle.executor_core.specs.View.{is_enabled, first_enabled}
-use Rattle.executor_core.specs.Answers.{called, start_answer, finish_answer, queue_size, running_count, is_terminated, outcome_in, stops_periodic, due_next, effect_on}
-use Rattle.executor_core.specs.State.{State, view_of_state, seen_task, reply_of}
+use Rattle.executor_model.specs.declared.types.EventError.TheVariants as x
+use Rattle.executor_model.specs.declared.types.Happening.{Happening}
+use Rattle.executor_model.specs.declared.types.Happening.TheVariants as h
+use Rattle.executor_model.specs.declared.types.Answer.{Answer}
+use Rattle.executor_model.specs.declared.types.Answer.TheVariants as a
+use Rattle.executor_model.specs.View.{is_enabled, first_enabled}
+use Rattle.executor_model.specs.Answers.{called, start_answer, finish_answer, queue_size, running_count, is_terminated, outcome_in, stops_periodic, due_next, effect_on}
+use Rattle.executor_model.specs.State.{State, view_of_state, seen_task, reply_of}
 use Rattle.executor_laws.specs.Cancels.{tells_of}
 use Rattle.executor_laws.proofs.Replies.{IsAsk, asks}
 use Rattle.executor_laws.proofs.Places.{first_is_the_least, none_is_enabled}

@@ -8,21 +8,21 @@ use Rattle.sched_time.specs.declared.timing.Ending.{Ending}
 use Rattle.queue_code.specs.declared.call.CodeCall.{CodeCall}
 use Rattle.queue_code.specs.declared.call.CodeCall.TheVariants as c
 use Rattle.queue_code.specs.Calls.{Planned, numbers, task_count, terms_of}
-use Rattle.executor_core.specs.declared.types.EventError.TheVariants as x
-use Rattle.executor_core.specs.declared.types.CancelEffect.{CancelEffect}
-use Rattle.executor_core.specs.declared.types.CancelEffect.TheVariants as f
-use Rattle.executor_core.specs.declared.types.Outcome.{Outcome}
-use Rattle.executor_core.specs.declared.types.Outcome.TheVariants as o
-use Rattle.executor_core.specs.declared.types.Happening.{Happening}
-use Rattle.executor_core.specs.declared.types.Happening.TheVariants as h
-use Rattle.executor_core.specs.declared.types.Answer.TheVariants as a
-use Rattle.executor_core.specs.declared.types.Need.{Need}
-use Rattle.executor_core.specs.declared.types.Need.TheVariants as n
-use Rattle.executor_core.specs.View.{Fate, View, is_running, first_enabled}
-use Rattle.executor_core.specs.Answers.{called, setting_sweeps, start_answer, finish_answer, outcome_in, stops_periodic, due_next, effect_on}
-use Rattle.executor_core.specs.Histories.{is_submit}
-use Rattle.executor_core.specs.State.{State, view_of_state, reply_of}
-use Rattle.executor_core.specs.Needs.{need_of, need_of_answer, need_of_cancel, need_of_finish}
+use Rattle.executor_model.specs.declared.types.EventError.TheVariants as x
+use Rattle.executor_model.specs.declared.types.CancelEffect.{CancelEffect}
+use Rattle.executor_model.specs.declared.types.CancelEffect.TheVariants as f
+use Rattle.executor_model.specs.declared.types.Outcome.{Outcome}
+use Rattle.executor_model.specs.declared.types.Outcome.TheVariants as o
+use Rattle.executor_model.specs.declared.types.Happening.{Happening}
+use Rattle.executor_model.specs.declared.types.Happening.TheVariants as h
+use Rattle.executor_model.specs.declared.types.Answer.TheVariants as a
+use Rattle.executor_model.specs.declared.types.Need.{Need}
+use Rattle.executor_model.specs.declared.types.Need.TheVariants as n
+use Rattle.executor_model.specs.View.{Fate, View, is_running, first_enabled}
+use Rattle.executor_model.specs.Answers.{called, setting_sweeps, start_answer, finish_answer, outcome_in, stops_periodic, due_next, effect_on}
+use Rattle.executor_model.specs.Histories.{is_submit}
+use Rattle.executor_model.specs.State.{State, view_of_state, reply_of}
+use Rattle.executor_model.specs.Needs.{need_of, need_of_answer, need_of_cancel, need_of_finish}
 use Rattle.executor_laws.specs.Cancels.{is_needed, need_instead, OnlyCallsSweep, OutsideNeedsItsCancel}
 use Rattle.executor_laws.proofs.CancelledTasks.{or_none, eqb_turns, cancelled_at, marks, at, reply_where, call_reply}
 use Rattle.executor_laws.proofs.CancelAnswers.{first_stays, not_that, effect_stays}

@@ -3,15 +3,15 @@ use Rattle.std.proofs.Common.{◌≡◌, ℕ, ◌&&◌, ◌||◌, true, false, L
 use Rattle.std.specs.Prelude.{not}
 use Rattle.std.proofs.lemmas.Bool.{ne_eqb, eq-eqb}
 use Rattle.queue_code.specs.Calls.{Planned, terms_of}
-use Rattle.executor_core.specs.declared.types.CancelEffect.TheVariants as f
-use Rattle.executor_core.specs.declared.types.Happening.{Happening}
-use Rattle.executor_core.specs.declared.types.Happening.TheVariants as h
-use Rattle.executor_core.specs.View.{is_waiting}
-use Rattle.executor_core.specs.Answers.{bare, effect_on}
-use Rattle.executor_core.specs.Histories.{happenings, is_submit}
-use Rattle.executor_core.specs.State.{State, view_of_state, seen_task, after, reply_of, state_after}
-use Rattle.executor_core.specs.Tasks.{word_phase}
-use Rattle.executor_core.proofs.Cancels.{live_is_used}
+use Rattle.executor_model.specs.declared.types.CancelEffect.TheVariants as f
+use Rattle.executor_model.specs.declared.types.Happening.{Happening}
+use Rattle.executor_model.specs.declared.types.Happening.TheVariants as h
+use Rattle.executor_model.specs.View.{is_waiting}
+use Rattle.executor_model.specs.Answers.{bare, effect_on}
+use Rattle.executor_model.specs.Histories.{happenings, is_submit}
+use Rattle.executor_model.specs.State.{State, view_of_state, seen_task, after, reply_of, state_after}
+use Rattle.executor_model.specs.Tasks.{word_phase}
+use Rattle.executor_model.proofs.Effects.{live_is_used}
 use Rattle.executor_laws.specs.Cancels.{TouchesOneTask, CancelsTouchOneTask}
 use Rattle.executor_laws.proofs.WordAnswers.{Says, says}
 use Rattle.executor_laws.proofs.WordMoves.{submits_once}

@@ -3,18 +3,18 @@ use Rattle.std.proofs.Common.{◌≡◌, ◌≢◌, nat_lt, Bool, true, false, c
 use Rattle.std.proofs.lemmas.Bool.{false≢true}
 use Rattle.task_word.specs.declared.phases.Phase.TheVariants as w
 use Rattle.queue_code.specs.Calls.{Terms, task_count, terms_of}
-use Rattle.executor_core.specs.declared.task.Stage.{Stage}
-use Rattle.executor_core.specs.declared.task.Stage.TheVariants as ph
-use Rattle.executor_core.specs.declared.task.Task.{Task}
-use Rattle.executor_core.specs.declared.types.EventError.TheVariants as x
-use Rattle.executor_core.specs.declared.types.CancelEffect.TheVariants as f
-use Rattle.executor_core.specs.declared.types.Answer.TheVariants as a
-use Rattle.executor_core.specs.Answers.{bare, effect_on}
-use Rattle.executor_core.specs.Histories.{happenings}
-use Rattle.executor_core.specs.State.{seen_task, was_submitted, after}
-use Rattle.executor_core.specs.Tasks.{word_phase}
-use Rattle.executor_core.proofs.Agree.{after_agrees}
-use Rattle.executor_core.proofs.Cancels.{of_vacant, of_waiting, of_running, of_cancelled, of_done, of_failed}
+use Rattle.executor_model.specs.declared.task.Stage.{Stage}
+use Rattle.executor_model.specs.declared.task.Stage.TheVariants as ph
+use Rattle.executor_model.specs.declared.task.Task.{Task}
+use Rattle.executor_model.specs.declared.types.EventError.TheVariants as x
+use Rattle.executor_model.specs.declared.types.CancelEffect.TheVariants as f
+use Rattle.executor_model.specs.declared.types.Answer.TheVariants as a
+use Rattle.executor_model.specs.Answers.{bare, effect_on}
+use Rattle.executor_model.specs.Histories.{happenings}
+use Rattle.executor_model.specs.State.{seen_task, was_submitted, after}
+use Rattle.executor_model.specs.Tasks.{word_phase}
+use Rattle.executor_model.proofs.Agree.{after_agrees}
+use Rattle.executor_model.proofs.Effects.{of_vacant, of_waiting, of_running, of_cancelled, of_done, of_failed}
 use Rattle.executor_laws.specs.Cancels.{effect_on_word, CancelsGoByWords}
 use Rattle.executor_laws.proofs.Termination.{submitted_is_a_task}
 use Rattle.executor_laws.proofs.WordAnswers.{Says, says}

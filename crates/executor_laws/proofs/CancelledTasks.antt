@@ -7,16 +7,16 @@ use Rattle.queue_code.specs.declared.call.CodeCall.{CodeCall}
 use Rattle.queue_code.specs.declared.call.CodeCall.TheVariants as c
 use Rattle.queue_code.specs.Calls.{Planned, Terms, task_count, terms_of}
 use Rattle.sched_time.specs.declared.policies.Policies.{Policies}
-use Rattle.executor_core.specs.declared.task.Task.{Task}
-use Rattle.executor_core.specs.declared.types.CancelEffect.TheVariants as f
-use Rattle.executor_core.specs.declared.types.Happening.{Happening}
-use Rattle.executor_core.specs.declared.types.Happening.TheVariants as h
-use Rattle.executor_core.specs.declared.types.Answer.TheVariants as a
-use Rattle.executor_core.specs.View.{View, is_running, is_waiting, is_enabled}
-use Rattle.executor_core.specs.Answers.{Reply, bare, called, swept, is_swept, is_ended_by, setting_sweeps}
+use Rattle.executor_model.specs.declared.task.Task.{Task}
+use Rattle.executor_model.specs.declared.types.CancelEffect.TheVariants as f
+use Rattle.executor_model.specs.declared.types.Happening.{Happening}
+use Rattle.executor_model.specs.declared.types.Happening.TheVariants as h
+use Rattle.executor_model.specs.declared.types.Answer.TheVariants as a
+use Rattle.executor_model.specs.View.{View, is_running, is_waiting, is_enabled}
+use Rattle.executor_model.specs.Answers.{Reply, bare, called, swept, is_swept, is_ended_by, setting_sweeps}
 use Rattle.sched_time.specs.Policies.{set_policy}
-use Rattle.executor_core.specs.Histories.{is_end}
-use Rattle.executor_core.specs.State.{State, view_of_state, seen_task, was_submitted, reply_of, state_after}
+use Rattle.executor_model.specs.Histories.{is_end}
+use Rattle.executor_model.specs.State.{State, view_of_state, seen_task, was_submitted, reply_of, state_after}
 use Rattle.executor_laws.proofs.Policies.{ends_within}
 
 -- ---- the state after a cancel with an effect

@@ -3,18 +3,18 @@ use Rattle.std.proofs.Common.{◌≡◌, ℕ, ◌||◌, ◌==◌, Bool, true, fa
 use Rattle.std.proofs.lemmas.Bool.{false≢true, and_parts}
 use Rattle.task_word.specs.Words.{is_cancelled, is_live}
 use Rattle.sched_time.specs.declared.timing.Timing.{Timing}
-use Rattle.executor_core.specs.declared.types.Outcome.TheVariants as o
-use Rattle.executor_core.specs.declared.types.Answer.{Answer}
-use Rattle.executor_core.specs.declared.types.Answer.TheVariants as a
-use Rattle.executor_core.specs.declared.task.Stage.{Stage}
-use Rattle.executor_core.specs.declared.task.Stage.TheVariants as ph
-use Rattle.executor_core.specs.declared.task.Task.{Task}
+use Rattle.executor_model.specs.declared.types.Outcome.TheVariants as o
+use Rattle.executor_model.specs.declared.types.Answer.{Answer}
+use Rattle.executor_model.specs.declared.types.Answer.TheVariants as a
+use Rattle.executor_model.specs.declared.task.Stage.{Stage}
+use Rattle.executor_model.specs.declared.task.Stage.TheVariants as ph
+use Rattle.executor_model.specs.declared.task.Task.{Task}
 use Rattle.queue_code.specs.Calls.{terms_of}
-use Rattle.executor_core.specs.Histories.{happenings, cancels, kept_after}
-use Rattle.executor_core.specs.State.{view_of_state, reply_of, after, move_task, submit_phase, finish_task}
-use Rattle.executor_core.specs.Tasks.{word_phase, word_of_task}
-use Rattle.executor_core.proofs.Moves.{moved_task}
-use Rattle.executor_core.proofs.Agree.{after_agrees}
+use Rattle.executor_model.specs.Histories.{happenings, cancels, kept_after}
+use Rattle.executor_model.specs.State.{view_of_state, reply_of, after, move_task, submit_phase, finish_task}
+use Rattle.executor_model.specs.Tasks.{word_phase, word_of_task}
+use Rattle.executor_model.proofs.Moves.{moved_task}
+use Rattle.executor_model.proofs.Agree.{after_agrees}
 use Rattle.executor_laws.specs.TaskWords.{CancelledWordsStay}
 use Rattle.executor_laws.proofs.WordAnswers.{Meets, meets}
 

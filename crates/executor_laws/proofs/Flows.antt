@@ -1,8 +1,8 @@
 -- The happenings of events have one history that means the calls, and happenings that may come have one.
 use Rattle.std.proofs.Common.{[], ◌∙◌, sym, append-nil}
-use Rattle.executor_core.specs.Flows.{history_from, history_of}
+use Rattle.executor_model.specs.Flows.{history_from, history_of}
 use Rattle.executor_laws.specs.Laws.{OneHistory, FlowsAreAnswered}
-use Rattle.executor_core.proofs.Flowing.{flow_means, flow_happens, one_answer, happenings_from, may_mean}
+use Rattle.executor_model.proofs.Flowing.{flow_means, flow_happens, one_answer, happenings_from, may_mean}
 
 -- some events have one history
 pub one_history : OneHistory

@@ -2,17 +2,17 @@
 use Rattle.std.proofs.Common.{◌≡◌, ℕ, ◌+◌, ◌==◌, ◌&&◌, ◌||◌, ◌⊎◌, Bool, true, false, cond, inl, inr, List, [], ◌∷◌, ◌++◌, Some, refl, sym, ap, ◌∙◌, subst}
 use Rattle.std.specs.Prelude.{not}
 use Rattle.std.proofs.lemmas.Bool.{false≢true, not-true, and_from, and_parts, or_cases, or_left, or_right, not_from_false}
-use Rattle.executor_core.specs.declared.types.Answer.{Answer}
-use Rattle.executor_core.specs.declared.types.Answer.TheVariants as a
-use Rattle.executor_core.specs.declared.types.Outcome.TheVariants as o
-use Rattle.executor_core.specs.declared.task.Stage.TheVariants as ph
-use Rattle.executor_core.specs.declared.task.Task.{Task}
+use Rattle.executor_model.specs.declared.types.Answer.{Answer}
+use Rattle.executor_model.specs.declared.types.Answer.TheVariants as a
+use Rattle.executor_model.specs.declared.types.Outcome.TheVariants as o
+use Rattle.executor_model.specs.declared.task.Stage.TheVariants as ph
+use Rattle.executor_model.specs.declared.task.Task.{Task}
 use Rattle.queue_code.specs.Calls.{Planned, due_at, terms_of}
-use Rattle.executor_core.specs.View.{View, is_waiting}
-use Rattle.executor_core.specs.Histories.{HistoryEntry, IsHistoryOf, view_of_history, happenings, now_of, starts, last_finish, due_of, is_start, is_finish, is_cancel, is_sweep, meets, kept_after, is_kept, was_shut, policies_of}
-use Rattle.executor_core.specs.State.{after}
+use Rattle.executor_model.specs.View.{View, is_waiting}
+use Rattle.executor_model.specs.Histories.{HistoryEntry, IsHistoryOf, view_of_history, happenings, now_of, starts, last_finish, due_of, is_start, is_finish, is_cancel, is_sweep, meets, kept_after, is_kept, was_shut, policies_of}
+use Rattle.executor_model.specs.State.{after}
 use Rattle.executor_laws.specs.Policies.{KeptSince, KeptByPositions}
-use Rattle.executor_core.proofs.Agree.{after_agrees, answers_alike}
+use Rattle.executor_model.proofs.Agree.{after_agrees, answers_alike}
 use Rattle.executor_laws.proofs.WordAnswers.{Meets as MeetsTask, meets as meets_task}
 
 -- what is so where a task is kept after an answer

@@ -12,25 +12,25 @@ use Rattle.sched_time.specs.declared.timing.Ending.TheVariants as e
 use Rattle.queue_code.specs.declared.call.CodeCall.{CodeCall}
 use Rattle.queue_code.specs.declared.call.CodeCall.TheVariants as c
 use Rattle.queue_code.specs.Calls.{Planned, IsOrderly, IsOrderlyCall, IsOrderlyFrom, submits_task, count_after, how_many, numbers, task_count, terms_of}
-use Rattle.executor_core.specs.declared.types.EventError.TheVariants as x
-use Rattle.executor_core.specs.declared.types.Happening.{Happening}
-use Rattle.executor_core.specs.declared.types.Happening.TheVariants as h
-use Rattle.executor_core.specs.declared.types.Outcome.{Outcome}
-use Rattle.executor_core.specs.declared.types.Outcome.TheVariants as o
-use Rattle.executor_core.specs.declared.types.Answer.{Answer}
-use Rattle.executor_core.specs.declared.types.Answer.TheVariants as a
-use Rattle.executor_core.specs.declared.types.Line.{Line}
-use Rattle.executor_core.specs.declared.types.Message.{Message}
-use Rattle.executor_core.specs.declared.types.Message.TheVariants as m
-use Rattle.executor_core.specs.View.{View, is_running, first_enabled}
-use Rattle.executor_core.specs.Answers.{bare, reply, called, start_answer, finish_answer, is_queued, due_next, outcome_in, stops_periodic, effect_on}
-use Rattle.executor_core.specs.Histories.{HistoryEntry, IsHistoryOf, view_of_history, happenings, now_of, is_start, is_end}
-use Rattle.executor_core.specs.State.{was_submitted}
-use Rattle.executor_core.specs.Flows.{end_line, lines_of, lines_at, reply_in}
-use Rattle.executor_core.proofs.Agree.{after_agrees}
-use Rattle.executor_core.proofs.First.{first_is_in, range_below}
-use Rattle.executor_core.proofs.Flowing.{how_many-le}
-use Rattle.executor_core.proofs.Within.{now_within, dues_within, next_within, none_within}
+use Rattle.executor_model.specs.declared.types.EventError.TheVariants as x
+use Rattle.executor_model.specs.declared.types.Happening.{Happening}
+use Rattle.executor_model.specs.declared.types.Happening.TheVariants as h
+use Rattle.executor_model.specs.declared.types.Outcome.{Outcome}
+use Rattle.executor_model.specs.declared.types.Outcome.TheVariants as o
+use Rattle.executor_model.specs.declared.types.Answer.{Answer}
+use Rattle.executor_model.specs.declared.types.Answer.TheVariants as a
+use Rattle.executor_model.specs.declared.types.Line.{Line}
+use Rattle.executor_model.specs.declared.types.Message.{Message}
+use Rattle.executor_model.specs.declared.types.Message.TheVariants as m
+use Rattle.executor_model.specs.View.{View, is_running, first_enabled}
+use Rattle.executor_model.specs.Answers.{bare, reply, called, start_answer, finish_answer, is_queued, due_next, outcome_in, stops_periodic, effect_on}
+use Rattle.executor_model.specs.Histories.{HistoryEntry, IsHistoryOf, view_of_history, happenings, now_of, is_start, is_end}
+use Rattle.executor_model.specs.State.{was_submitted}
+use Rattle.executor_model.specs.Flows.{end_line, lines_of, lines_at, reply_in}
+use Rattle.executor_model.proofs.Agree.{after_agrees}
+use Rattle.executor_model.proofs.First.{first_is_in, range_below}
+use Rattle.executor_model.proofs.Flowing.{how_many-le}
+use Rattle.executor_model.proofs.Within.{now_within, dues_within, next_within, none_within}
 use Rattle.executor_laws.specs.Lines.{RunEnded, IsOutcomeInRange, IsAnswerInRange, IsMessageInRange, LinesAreInRange}
 use Rattle.executor_laws.proofs.Replies.{ends_say}
 use Rattle.executor_laws.proofs.Waiting.{waiting_is_a_task}

@@ -3,24 +3,24 @@ use Rattle.std.proofs.Common.{◌≡◌, ℕ, ◌||◌, ◌==◌, Bool, true, fa
 use Rattle.std.proofs.lemmas.Bool.{false≢true, and_parts, or_cases}
 use Rattle.task_word.specs.Words.{is_live}
 use Rattle.sched_time.specs.declared.timing.Timing.{Timing}
-use Rattle.executor_core.specs.declared.types.CancelEffect.{CancelEffect}
-use Rattle.executor_core.specs.declared.types.CancelEffect.TheVariants as f
-use Rattle.executor_core.specs.declared.types.Happening.{Happening}
-use Rattle.executor_core.specs.declared.types.Outcome.{Outcome}
-use Rattle.executor_core.specs.declared.types.Outcome.TheVariants as o
-use Rattle.executor_core.specs.declared.types.Answer.{Answer}
-use Rattle.executor_core.specs.declared.types.Answer.TheVariants as a
-use Rattle.executor_core.specs.declared.task.Stage.{Stage}
-use Rattle.executor_core.specs.declared.task.Stage.TheVariants as ph
-use Rattle.executor_core.specs.declared.task.Task.{Task}
+use Rattle.executor_model.specs.declared.types.CancelEffect.{CancelEffect}
+use Rattle.executor_model.specs.declared.types.CancelEffect.TheVariants as f
+use Rattle.executor_model.specs.declared.types.Happening.{Happening}
+use Rattle.executor_model.specs.declared.types.Outcome.{Outcome}
+use Rattle.executor_model.specs.declared.types.Outcome.TheVariants as o
+use Rattle.executor_model.specs.declared.types.Answer.{Answer}
+use Rattle.executor_model.specs.declared.types.Answer.TheVariants as a
+use Rattle.executor_model.specs.declared.task.Stage.{Stage}
+use Rattle.executor_model.specs.declared.task.Stage.TheVariants as ph
+use Rattle.executor_model.specs.declared.task.Task.{Task}
 use Rattle.queue_code.specs.Calls.{Planned, terms_of}
-use Rattle.executor_core.specs.Histories.{HistoryEntry, IsHistoryOf, happenings, had_effect, is_cancel, is_end, is_finish_with, is_ended, is_sweep, cancels, kept_after}
-use Rattle.executor_core.specs.State.{State, view_of_state, reply_of, after, move_task, submit_phase, end_task, finish_task, due_past}
-use Rattle.executor_core.specs.Tasks.{word_phase}
-use Rattle.executor_core.specs.own.Invariants.{IsSound}
-use Rattle.executor_core.proofs.Moves.{moved_task}
-use Rattle.executor_core.proofs.Sound.{waits_in}
-use Rattle.executor_core.proofs.Agree.{after_agrees}
+use Rattle.executor_model.specs.Histories.{HistoryEntry, IsHistoryOf, happenings, had_effect, is_cancel, is_end, is_finish_with, is_ended, is_sweep, cancels, kept_after}
+use Rattle.executor_model.specs.State.{State, view_of_state, reply_of, after, move_task, submit_phase, end_task, finish_task, due_past}
+use Rattle.executor_model.specs.Tasks.{word_phase}
+use Rattle.executor_model.specs.own.Soundness.{IsSound}
+use Rattle.executor_model.proofs.Moves.{moved_task}
+use Rattle.executor_model.proofs.Sound.{waits_in}
+use Rattle.executor_model.proofs.Agree.{after_agrees}
 use Rattle.executor_laws.proofs.Replies.{ends_say}
 use Rattle.executor_laws.proofs.WordAnswers.{Meets, meets}
 

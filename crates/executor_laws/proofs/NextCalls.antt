@@ -11,17 +11,17 @@ use Rattle.sched_time.specs.declared.timing.Timing.{Timing}
 use Rattle.sched_time.specs.declared.timing.Timing.TheVariants as t
 use Rattle.queue_code.specs.declared.call.CodeCall.{CodeCall}
 use Rattle.queue_code.specs.declared.call.CodeCall.TheVariants as c
-use Rattle.executor_core.specs.declared.types.Happening.{Happening}
-use Rattle.executor_core.specs.declared.types.Happening.TheVariants as h
-use Rattle.executor_core.specs.declared.types.Kind.{Kind}
-use Rattle.executor_core.specs.declared.types.Refusal.TheVariants as refusal
-use Rattle.executor_core.specs.declared.types.Answer.{Answer}
-use Rattle.executor_core.specs.declared.types.Answer.TheVariants as a
+use Rattle.executor_model.specs.declared.types.Happening.{Happening}
+use Rattle.executor_model.specs.declared.types.Happening.TheVariants as h
+use Rattle.executor_model.specs.declared.types.Kind.{Kind}
+use Rattle.executor_model.specs.declared.types.Refusal.TheVariants as refusal
+use Rattle.executor_model.specs.declared.types.Answer.{Answer}
+use Rattle.executor_model.specs.declared.types.Answer.TheVariants as a
 use Rattle.queue_code.specs.Calls.{Planned, IsOrderly, task_count, submits_task, Terms, terms_of, due_at}
-use Rattle.executor_core.specs.View.{View, is_waiting}
-use Rattle.executor_core.specs.Answers.{bare, reply, called, kind_of, is_accepted, moment_after, swept}
-use Rattle.executor_core.specs.Histories.{HistoryEntry, IsHistoryOf, MayFrom, happenings, made, made_after, now_of, view_of_history, is_submit}
-use Rattle.executor_core.proofs.Tables.{next_later}
+use Rattle.executor_model.specs.View.{View, is_waiting}
+use Rattle.executor_model.specs.Answers.{bare, reply, called, kind_of, is_accepted, moment_after, swept}
+use Rattle.executor_model.specs.Histories.{HistoryEntry, IsHistoryOf, MayFrom, happenings, made, made_after, now_of, view_of_history, is_submit}
+use Rattle.executor_model.proofs.Tables.{next_later}
 use Rattle.executor_laws.specs.Positions.{IsSubmissionOf}
 use Rattle.executor_laws.proofs.Reading.{tasks_are_submitted, terms_are_its_own}
 use Rattle.executor_laws.proofs.Waiting.{submit_says, waiting_is_a_task}

@@ -1,14 +1,14 @@
 -- A task that was accepted, and neither cancelled nor ended, is never lost.
 use Rattle.std.proofs.Common.{◌≡◌, true, false, inl, inr, ◌⊎◌, Some, refl, sym, ap, ◌∙◌}
 use Rattle.std.proofs.lemmas.Bool.{false≢true}
-use Rattle.executor_core.specs.declared.task.Stage.{Stage}
-use Rattle.executor_core.specs.declared.task.Stage.TheVariants as ph
+use Rattle.executor_model.specs.declared.task.Stage.{Stage}
+use Rattle.executor_model.specs.declared.task.Stage.TheVariants as ph
 use Rattle.queue_code.specs.Calls.{terms_of}
-use Rattle.executor_core.specs.View.{Fate, View, is_waiting}
-use Rattle.executor_core.specs.Histories.{happenings, view_of_history, was_done, was_failed, work_of}
-use Rattle.executor_core.specs.State.{State, after, view_of_state, seen_phase, was_submitted, is_done_phase, is_failed_phase}
-use Rattle.executor_core.proofs.Agree.{Agrees, after_agrees}
-use Rattle.executor_core.proofs.Sound.{is_seen_waiting}
+use Rattle.executor_model.specs.View.{Fate, View, is_waiting}
+use Rattle.executor_model.specs.Histories.{happenings, view_of_history, was_done, was_failed, work_of}
+use Rattle.executor_model.specs.State.{State, after, view_of_state, seen_phase, was_submitted, is_done_phase, is_failed_phase}
+use Rattle.executor_model.proofs.Agree.{Agrees, after_agrees}
+use Rattle.executor_model.proofs.Sound.{is_seen_waiting}
 use Rattle.executor_laws.specs.Turns.{IsInLine, IsAtWork, NoTaskIsLost}
 use Rattle.executor_laws.proofs.Places.{work_is_the_last_start}
 use Rattle.executor_laws.proofs.Waiting.{waiting_is_a_task, waiting_is_due_in_time}

@@ -6,19 +6,19 @@ use Rattle.std.specs.List.{list_any}
 use Rattle.std.proofs.lemmas.Bool.{false≢true, eqb-true, eq-eqb, or_from}
 use Rattle.std.proofs.lemmas.Bool.Decides.{nat_tests}
 use Rattle.std.proofs.lemmas.Option.{none-some, same_Some}
-use Rattle.executor_core.specs.declared.types.EventError.TheVariants as x
-use Rattle.executor_core.specs.declared.types.Happening.{Happening}
-use Rattle.executor_core.specs.declared.types.Happening.TheVariants as h
-use Rattle.executor_core.specs.declared.types.Answer.{Answer}
-use Rattle.executor_core.specs.declared.types.Answer.TheVariants as a
+use Rattle.executor_model.specs.declared.types.EventError.TheVariants as x
+use Rattle.executor_model.specs.declared.types.Happening.{Happening}
+use Rattle.executor_model.specs.declared.types.Happening.TheVariants as h
+use Rattle.executor_model.specs.declared.types.Answer.{Answer}
+use Rattle.executor_model.specs.declared.types.Answer.TheVariants as a
 use Rattle.queue_code.specs.Calls.{Planned, how_many, numbers, task_count}
-use Rattle.executor_core.specs.View.{View, is_enabled, first_enabled}
-use Rattle.executor_core.specs.Answers.{bare, reply, called, start_answer, finish_answer, moment_after, is_accepted, effect_on}
-use Rattle.executor_core.specs.Histories.{HistoryEntry, IsHistoryOf, view_of_history, now_of, happenings, made, work_of, work_after, answer}
+use Rattle.executor_model.specs.View.{View, is_enabled, first_enabled}
+use Rattle.executor_model.specs.Answers.{bare, reply, called, start_answer, finish_answer, moment_after, is_accepted, effect_on}
+use Rattle.executor_model.specs.Histories.{HistoryEntry, IsHistoryOf, view_of_history, now_of, happenings, made, work_of, work_after, answer}
 use Rattle.executor_laws.specs.Positions.{starts_by, finishes_by, StartedLast, WorkIsTheLastStart, StartsExceedFinishes, busy, HasMoment, Shows, NowIsTheGreatest, FirstIsTheLeast, NoneIsEnabled}
-use Rattle.executor_core.proofs.Sound.{first_is_enabled}
+use Rattle.executor_model.proofs.Sound.{first_is_enabled}
 use Rattle.executor_laws.proofs.Replies.{IsOfCall, call_answer}
-use Rattle.executor_core.proofs.First.{first_is, first_is_in, first_is_least, first_is_none, none_enabled, in_range, range_below}
+use Rattle.executor_model.proofs.First.{first_is, first_is_in, first_is_least, first_is_none, none_enabled, in_range, range_below}
 
 -- ---- the first enabled task
 

@@ -11,20 +11,20 @@ use Rattle.sched_time.specs.declared.policies.Which.TheVariants as p
 use Rattle.queue_code.specs.declared.call.CodeCall.{CodeCall}
 use Rattle.queue_code.specs.declared.call.CodeCall.TheVariants as c
 use Rattle.sched_time.specs.declared.policies.Policies.{Policies}
-use Rattle.executor_core.specs.declared.types.EventError.TheVariants as x
-use Rattle.executor_core.specs.declared.types.Happening.{Happening}
-use Rattle.executor_core.specs.declared.types.Happening.TheVariants as h
-use Rattle.executor_core.specs.declared.types.Answer.{Answer}
-use Rattle.executor_core.specs.declared.types.Answer.TheVariants as a
+use Rattle.executor_model.specs.declared.types.EventError.TheVariants as x
+use Rattle.executor_model.specs.declared.types.Happening.{Happening}
+use Rattle.executor_model.specs.declared.types.Happening.TheVariants as h
+use Rattle.executor_model.specs.declared.types.Answer.{Answer}
+use Rattle.executor_model.specs.declared.types.Answer.TheVariants as a
 use Rattle.queue_code.specs.Calls.{Planned, numbers, task_count, terms_of}
-use Rattle.executor_core.specs.View.{View, first_enabled}
-use Rattle.executor_core.specs.Answers.{Reply, bare, reply, called, setting_sweeps, moment_after, is_swept, swept, start_answer, finish_answer, outcome_in, stops_periodic, due_next, effect_on}
+use Rattle.executor_model.specs.View.{View, first_enabled}
+use Rattle.executor_model.specs.Answers.{Reply, bare, reply, called, setting_sweeps, moment_after, is_swept, swept, start_answer, finish_answer, outcome_in, stops_periodic, due_next, effect_on}
 use Rattle.sched_time.specs.Policies.{set_policy}
-use Rattle.executor_core.specs.Histories.{HistoryEntry, IsHistoryOf, view_of_history, happenings, made, now_of, answer, is_cancel, is_end, is_finish_with, is_ended, is_shutdown, is_stop, is_sweep, cancels, was_cancelled, policies_after, policies_of}
+use Rattle.executor_model.specs.Histories.{HistoryEntry, IsHistoryOf, view_of_history, happenings, made, now_of, answer, is_cancel, is_end, is_finish_with, is_ended, is_shutdown, is_stop, is_sweep, cancels, was_cancelled, policies_after, policies_of}
 use Rattle.executor_laws.specs.Policies.{NothingStartsAfterAnEnd, TasksAreCancelledOnce, value_of, is_same, sets, PoliciesAreTheLastSet, shuts_down, stops_at_once, WasMade, ShutIsAShutdown, AscendsFrom, SweptAreThose, SweepsEndThose}
-use Rattle.executor_core.proofs.First.{range_below}
-use Rattle.executor_core.proofs.Replies.{IsAnswerTo, by_answer}
-use Rattle.executor_core.proofs.Sweeping.{ends_are}
+use Rattle.executor_model.proofs.First.{range_below}
+use Rattle.executor_model.proofs.Replies.{IsAnswerTo, by_answer}
+use Rattle.executor_model.proofs.Swept.{ends_are}
 use Rattle.executor_laws.proofs.Replies.{IsOfCall, call_answer, end_parts, ends_say}
 use Rattle.executor_laws.proofs.Waiting.{made_more}
 use Rattle.executor_laws.proofs.Repeats.{waiting_live, nothing_starts_after_a_cancel, cancelled_stays, cancel_says}

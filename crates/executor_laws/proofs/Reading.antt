@@ -7,18 +7,18 @@ use Rattle.std.proofs.lemmas.Bool.Decides.{nat_tests}
 use Rattle.std.proofs.lemmas.Option.{none-some, same_Some}
 use Rattle.queue_code.specs.declared.call.CodeCall.{CodeCall}
 use Rattle.queue_code.specs.declared.call.CodeCall.TheVariants as c
-use Rattle.executor_core.specs.declared.types.Event.{Event}
-use Rattle.executor_core.specs.declared.types.Event.TheVariants as v
-use Rattle.executor_core.specs.declared.types.Happening.{Happening}
-use Rattle.executor_core.specs.declared.types.Happening.TheVariants as h
+use Rattle.executor_model.specs.declared.types.Event.{Event}
+use Rattle.executor_model.specs.declared.types.Event.TheVariants as v
+use Rattle.executor_model.specs.declared.types.Happening.{Happening}
+use Rattle.executor_model.specs.declared.types.Happening.TheVariants as h
 use Rattle.queue_code.specs.Calls.{Planned, how_many, task_count, submits_task, count_after, IsOrderlyCall, IsOrderlyFrom, IsOrderly}
-use Rattle.executor_core.specs.Answers.{is_accepted}
-use Rattle.executor_core.specs.Histories.{HistoryEntry, IsHistoryOf, MayCome, happenings, made, now_of}
-use Rattle.executor_core.specs.Flows.{reached, flow, happening_of, calls_before, history_of}
+use Rattle.executor_model.specs.Answers.{is_accepted}
+use Rattle.executor_model.specs.Histories.{HistoryEntry, IsHistoryOf, MayCome, happenings, made, now_of}
+use Rattle.executor_model.specs.Flows.{reached, flow, happening_of, calls_before, history_of}
 use Rattle.executor_laws.specs.Positions.{ReachedIsAFront, IsSubmissionOf, TasksAreSubmitted, TermsAreItsOwn, is_event, FlowKeepsTheEvents, IsAcceptedClock, IsMadeBefore, FlowMakesWhatIsReached, FlowMayCome}
-use Rattle.executor_core.proofs.Flowing.{all_reached, reached_within, made_past}
+use Rattle.executor_model.proofs.Flowing.{all_reached, reached_within, made_past}
 use Rattle.executor_laws.proofs.Flows.{one_history}
-use Rattle.executor_core.proofs.Tables.{submission}
+use Rattle.executor_model.proofs.Tables.{submission}
 
 -- ---- the calls that a clock reaches
 

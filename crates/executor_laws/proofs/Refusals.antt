@@ -5,18 +5,18 @@ use Rattle.std.specs.Option.{option_map_or}
 use Rattle.std.proofs.lemmas.Bool.{false≢true, false_from_ne_true, or_cases}
 use Rattle.queue_code.specs.declared.call.CodeCall.{CodeCall}
 use Rattle.queue_code.specs.declared.call.CodeCall.TheVariants as c
-use Rattle.executor_core.specs.declared.types.EventError.TheVariants as x
-use Rattle.executor_core.specs.declared.types.Refusal.{Refusal}
-use Rattle.executor_core.specs.declared.types.Refusal.TheVariants as refusal
-use Rattle.executor_core.specs.declared.types.Happening.{Happening}
-use Rattle.executor_core.specs.declared.types.Happening.TheVariants as h
-use Rattle.executor_core.specs.declared.types.Answer.{Answer}
-use Rattle.executor_core.specs.declared.types.Answer.TheVariants as a
+use Rattle.executor_model.specs.declared.types.EventError.TheVariants as x
+use Rattle.executor_model.specs.declared.types.Refusal.{Refusal}
+use Rattle.executor_model.specs.declared.types.Refusal.TheVariants as refusal
+use Rattle.executor_model.specs.declared.types.Happening.{Happening}
+use Rattle.executor_model.specs.declared.types.Happening.TheVariants as h
+use Rattle.executor_model.specs.declared.types.Answer.{Answer}
+use Rattle.executor_model.specs.declared.types.Answer.TheVariants as a
 use Rattle.queue_code.specs.Calls.{Planned, IsOrderly, numbers, terms_of, due_at}
-use Rattle.executor_core.specs.View.{View, first_enabled}
-use Rattle.executor_core.specs.Answers.{bare, reply, called, kind_of, start_answer, finish_answer, effect_on}
-use Rattle.executor_core.specs.Histories.{HistoryEntry, IsHistoryOf, view_of_history, happenings, made, is_submit, was_accepted}
-use Rattle.executor_core.proofs.Replies.{IsAnswerTo, by_answer}
+use Rattle.executor_model.specs.View.{View, first_enabled}
+use Rattle.executor_model.specs.Answers.{bare, reply, called, kind_of, start_answer, finish_answer, effect_on}
+use Rattle.executor_model.specs.Histories.{HistoryEntry, IsHistoryOf, view_of_history, happenings, made, is_submit, was_accepted}
+use Rattle.executor_model.proofs.Replies.{IsAnswerTo, by_answer}
 use Rattle.executor_laws.specs.Positions.{IsSubmissionOf}
 use Rattle.executor_laws.specs.TaskWords.{word_after, starts_of_word}
 use Rattle.executor_laws.specs.Policies.{NothingIsAcceptedOnceShut, RefusedTasksDoNotStart}

@@ -10,22 +10,22 @@ use Rattle.sched_time.specs.declared.timing.Timing.TheVariants as t
 use Rattle.sched_time.specs.declared.timing.Ending.{Ending}
 use Rattle.sched_time.specs.declared.timing.Ending.TheVariants as e
 use Rattle.queue_code.specs.declared.call.CodeCall.{CodeCall}
-use Rattle.executor_core.specs.declared.types.EventError.TheVariants as x
-use Rattle.executor_core.specs.declared.types.Happening.{Happening}
-use Rattle.executor_core.specs.declared.types.Happening.TheVariants as h
-use Rattle.executor_core.specs.declared.types.CancelEffect.{CancelEffect}
-use Rattle.executor_core.specs.declared.types.CancelEffect.TheVariants as f
-use Rattle.executor_core.specs.declared.types.Outcome.TheVariants as o
-use Rattle.executor_core.specs.declared.types.Answer.{Answer}
-use Rattle.executor_core.specs.declared.types.Answer.TheVariants as a
+use Rattle.executor_model.specs.declared.types.EventError.TheVariants as x
+use Rattle.executor_model.specs.declared.types.Happening.{Happening}
+use Rattle.executor_model.specs.declared.types.Happening.TheVariants as h
+use Rattle.executor_model.specs.declared.types.CancelEffect.{CancelEffect}
+use Rattle.executor_model.specs.declared.types.CancelEffect.TheVariants as f
+use Rattle.executor_model.specs.declared.types.Outcome.TheVariants as o
+use Rattle.executor_model.specs.declared.types.Answer.{Answer}
+use Rattle.executor_model.specs.declared.types.Answer.TheVariants as a
 use Rattle.queue_code.specs.Calls.{Planned, Terms, numbers, task_count, terms_of, due_at}
-use Rattle.executor_core.specs.View.{Fate, View, is_running, is_over, is_waiting, first_enabled}
-use Rattle.executor_core.specs.Answers.{bare, reply, called, start_answer, finish_answer, outcome_of, due_next, stops_periodic, effect_on, outcome_in}
-use Rattle.executor_core.specs.Histories.{HistoryEntry, view_of_history, happenings, now_of, is_cancel, cancels, had_effect, is_start, is_finish, is_finish_with, is_failed, starts, finishes, last_finish, was_cancelled, was_failed, due_of}
+use Rattle.executor_model.specs.View.{Fate, View, is_running, is_over, is_waiting, first_enabled}
+use Rattle.executor_model.specs.Answers.{bare, reply, called, start_answer, finish_answer, outcome_of, due_next, stops_periodic, effect_on, outcome_in}
+use Rattle.executor_model.specs.Histories.{HistoryEntry, view_of_history, happenings, now_of, is_cancel, cancels, had_effect, is_start, is_finish, is_finish_with, is_failed, starts, finishes, last_finish, was_cancelled, was_failed, due_of}
 use Rattle.executor_laws.specs.Laws.{Starts, TiesGoBySubmission, RateRunsAreDue, FixedRunsAreDue, AgainIsDue, RunsDoNotOverlap, NothingStartsAfterAFailure, NothingStartsAfterACancel, CancelsHaveOneEffect}
-use Rattle.executor_core.proofs.Replies.{IsAnswerTo, answers_call}
-use Rattle.executor_core.proofs.Tables.{submission}
-use Rattle.executor_core.proofs.Sound.{first_is_enabled}
+use Rattle.executor_model.proofs.Replies.{IsAnswerTo, answers_call}
+use Rattle.executor_model.proofs.Tables.{submission}
+use Rattle.executor_model.proofs.Sound.{first_is_enabled}
 use Rattle.executor_laws.proofs.Replies.{IsOfCall, call_answer, SaysEffect, call_effect}
 use Rattle.executor_laws.proofs.StartLaws.{start_is_first, starts_are_in_order, means_front}
 use Rattle.executor_laws.proofs.Waiting.{finish_found}

@@ -6,17 +6,17 @@ use Rattle.std.specs.List.{filter}
 use Rattle.std.proofs.lemmas.Bool.{false≢true, eqb-true, or_cases, or_left, or_right}
 use Rattle.queue_code.specs.declared.call.CodeCall.{CodeCall}
 use Rattle.queue_code.specs.declared.call.CodeCall.TheVariants as c
-use Rattle.executor_core.specs.declared.types.EventError.TheVariants as x
-use Rattle.executor_core.specs.declared.types.Happening.{Happening}
-use Rattle.executor_core.specs.declared.types.Happening.TheVariants as h
-use Rattle.executor_core.specs.declared.types.Answer.{Answer}
-use Rattle.executor_core.specs.declared.types.Answer.TheVariants as a
+use Rattle.executor_model.specs.declared.types.EventError.TheVariants as x
+use Rattle.executor_model.specs.declared.types.Happening.{Happening}
+use Rattle.executor_model.specs.declared.types.Happening.TheVariants as h
+use Rattle.executor_model.specs.declared.types.Answer.{Answer}
+use Rattle.executor_model.specs.declared.types.Answer.TheVariants as a
 use Rattle.queue_code.specs.Calls.{Planned, numbers}
-use Rattle.executor_core.specs.View.{Fate, View, is_waiting, first_enabled}
-use Rattle.executor_core.specs.Answers.{Reply, bare, reply, called, setting_sweeps, swept, start_answer, finish_answer, queue_size, running_count, is_terminated, effect_on}
+use Rattle.executor_model.specs.View.{Fate, View, is_waiting, first_enabled}
+use Rattle.executor_model.specs.Answers.{Reply, bare, reply, called, setting_sweeps, swept, start_answer, finish_answer, queue_size, running_count, is_terminated, effect_on}
 use Rattle.sched_time.specs.Policies.{set_policy}
-use Rattle.executor_core.specs.Histories.{is_end, is_sweep}
-use Rattle.executor_core.proofs.Replies.{IsAnswerTo, by_answer, call_ends_waiting}
+use Rattle.executor_model.specs.Histories.{is_end, is_sweep}
+use Rattle.executor_model.proofs.Replies.{IsAnswerTo, by_answer, call_ends_waiting}
 
 -- ---- the answers to calls
 

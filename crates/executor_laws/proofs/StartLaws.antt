@@ -3,12 +3,12 @@ use Rattle.std.proofs.Common.{ℕ, nat_le, List, [], ◌∷◌, ◌++◌, sym, �
 use Rattle.std.specs.Prelude.{slice_get}
 use Rattle.std.proofs.lemmas.Bool.{and_parts, leb-true}
 use Rattle.queue_code.specs.Calls.{Planned, numbers, task_count}
-use Rattle.executor_core.specs.View.{is_waiting}
-use Rattle.executor_core.specs.Histories.{HistoryEntry, IsHistoryOf, view_of_history, now_of, happenings, made}
+use Rattle.executor_model.specs.View.{is_waiting}
+use Rattle.executor_model.specs.Histories.{HistoryEntry, IsHistoryOf, view_of_history, now_of, happenings, made}
 use Rattle.executor_laws.specs.Laws.{Starts, NoStartIsEarly, StartsAreInOrder, AnswersByPosition}
-use Rattle.executor_core.proofs.Starting.{StartsFirst, start_says}
-use Rattle.executor_core.proofs.Sound.{first_is_enabled}
-use Rattle.executor_core.proofs.First.{first_is_least, in_range}
+use Rattle.executor_model.proofs.Starting.{StartsFirst, start_says}
+use Rattle.executor_model.proofs.Sound.{first_is_enabled}
+use Rattle.executor_model.proofs.First.{first_is_least, in_range}
 
 -- what stands before some entries of a history is a history too
 pub means_front : (calls : List Planned) (workers : ℕ) (later past : List HistoryEntry) → IsHistoryOf calls workers (later ++ past) → IsHistoryOf calls workers past

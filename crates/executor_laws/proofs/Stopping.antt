@@ -3,22 +3,22 @@ use Rattle.std.proofs.Common.{◌≡◌, ℕ, ◌<◌, ◌==◌, nat_lt, Bool, t
 use Rattle.std.proofs.lemmas.Bool.{false≢true, false_from_ne_true, and_from, or_cases, or_left, or_right, or_parts, lt-ltb}
 use Rattle.std.proofs.lemmas.Bool.Decides.{nat_tests}
 use Rattle.sched_time.specs.declared.timing.Timing.{Timing}
-use Rattle.executor_core.specs.declared.types.Happening.{Happening}
-use Rattle.executor_core.specs.declared.types.Outcome.{Outcome}
-use Rattle.executor_core.specs.declared.types.Outcome.TheVariants as o
-use Rattle.executor_core.specs.declared.types.Answer.{Answer}
-use Rattle.executor_core.specs.declared.types.Answer.TheVariants as a
-use Rattle.executor_core.specs.declared.task.Stage.TheVariants as ph
-use Rattle.executor_core.specs.declared.task.Task.{Task}
+use Rattle.executor_model.specs.declared.types.Happening.{Happening}
+use Rattle.executor_model.specs.declared.types.Outcome.{Outcome}
+use Rattle.executor_model.specs.declared.types.Outcome.TheVariants as o
+use Rattle.executor_model.specs.declared.types.Answer.{Answer}
+use Rattle.executor_model.specs.declared.types.Answer.TheVariants as a
+use Rattle.executor_model.specs.declared.task.Stage.TheVariants as ph
+use Rattle.executor_model.specs.declared.task.Task.{Task}
 use Rattle.queue_code.specs.Calls.{Planned, IsOrderly, task_count, terms_of}
-use Rattle.executor_core.specs.View.{View, is_waiting}
-use Rattle.executor_core.specs.Answers.{is_swept}
-use Rattle.executor_core.specs.Histories.{HistoryEntry, IsHistoryOf, view_of_history, happenings, now_of, is_submit, is_end, is_shutdown, is_stop, is_sweep, cancels, was_shut, was_stopped, policies_of}
-use Rattle.executor_core.specs.State.{State, view_of_state, reply_of, next, state_after, after, move_task, finish_task}
-use Rattle.executor_core.specs.own.Invariants.{IsSound}
+use Rattle.executor_model.specs.View.{View, is_waiting}
+use Rattle.executor_model.specs.Answers.{is_swept}
+use Rattle.executor_model.specs.Histories.{HistoryEntry, IsHistoryOf, view_of_history, happenings, now_of, is_submit, is_end, is_shutdown, is_stop, is_sweep, cancels, was_shut, was_stopped, policies_of}
+use Rattle.executor_model.specs.State.{State, view_of_state, reply_of, next, state_after, after, move_task, finish_task}
+use Rattle.executor_model.specs.own.Soundness.{IsSound}
 use Rattle.executor_laws.specs.Policies.{NothingWaitsOnceStopped, NothingStartsAfterAStop}
-use Rattle.executor_core.proofs.Sound.{Finds, reply_finds, waits_in}
-use Rattle.executor_core.proofs.Agree.{after_agrees, answers_alike}
+use Rattle.executor_model.proofs.Sound.{Finds, reply_finds, waits_in}
+use Rattle.executor_model.proofs.Agree.{after_agrees, answers_alike}
 use Rattle.executor_laws.proofs.StartLaws.{means_front}
 use Rattle.executor_laws.proofs.Repeats.{started_so, again_says}
 use Rattle.executor_laws.proofs.TaskWords.{waits_seen}

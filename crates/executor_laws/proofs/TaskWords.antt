@@ -5,16 +5,16 @@ use Rattle.std.proofs.lemmas.Bool.{false≢true, false_from_ne_true}
 use Rattle.std.proofs.lemmas.Bool.Decides.{nat_tests}
 use Rattle.task_word.specs.Words.{is_live}
 use Rattle.task_word.specs.declared.phases.Phase.TheVariants as w
-use Rattle.executor_core.specs.declared.task.Stage.{Stage}
-use Rattle.executor_core.specs.declared.task.Stage.TheVariants as ph
+use Rattle.executor_model.specs.declared.task.Stage.{Stage}
+use Rattle.executor_model.specs.declared.task.Stage.TheVariants as ph
 use Rattle.queue_code.specs.Calls.{Planned, Terms, terms_of}
-use Rattle.executor_core.specs.View.{Fate, View, is_waiting, is_running}
-use Rattle.executor_core.specs.Histories.{view_of_history, happenings, was_accepted, was_done, was_failed}
-use Rattle.executor_core.specs.State.{State, view_of_state, seen_phase, seen_task, was_submitted, is_done_phase, is_failed_phase, starts_of, after}
-use Rattle.executor_core.specs.Tasks.{word_phase}
-use Rattle.executor_core.specs.own.Invariants.{IsSound}
-use Rattle.executor_core.proofs.Sound.{is_seen_waiting, waits_in}
-use Rattle.executor_core.proofs.Agree.{after_agrees}
+use Rattle.executor_model.specs.View.{Fate, View, is_waiting, is_running}
+use Rattle.executor_model.specs.Histories.{view_of_history, happenings, was_accepted, was_done, was_failed}
+use Rattle.executor_model.specs.State.{State, view_of_state, seen_phase, seen_task, was_submitted, is_done_phase, is_failed_phase, starts_of, after}
+use Rattle.executor_model.specs.Tasks.{word_phase}
+use Rattle.executor_model.specs.own.Soundness.{IsSound}
+use Rattle.executor_model.proofs.Sound.{is_seen_waiting, waits_in}
+use Rattle.executor_model.proofs.Agree.{after_agrees}
 use Rattle.executor_laws.specs.TaskWords.{starts_of_word, WordsTellTheHistory}
 use Rattle.executor_laws.proofs.LiveWords.{lived_after}
 

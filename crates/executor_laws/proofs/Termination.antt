@@ -3,20 +3,20 @@ use Rattle.std.proofs.Common.{◌≡◌, ℕ, ◌+◌, ◌==◌, ◌&&◌, Bool,
 use Rattle.std.specs.Prelude.{◌<◌}
 use Rattle.std.proofs.lemmas.Bool.{false≢true, and_parts, or_cases, or_right, or_parts, eqb-true}
 use Rattle.std.proofs.lemmas.Bool.Decides.{nat_tests}
-use Rattle.executor_core.specs.declared.types.Happening.{Happening}
-use Rattle.executor_core.specs.declared.types.Answer.{Answer}
-use Rattle.executor_core.specs.declared.types.Answer.TheVariants as a
-use Rattle.executor_core.specs.declared.task.Stage.TheVariants as ph
+use Rattle.executor_model.specs.declared.types.Happening.{Happening}
+use Rattle.executor_model.specs.declared.types.Answer.{Answer}
+use Rattle.executor_model.specs.declared.types.Answer.TheVariants as a
+use Rattle.executor_model.specs.declared.task.Stage.TheVariants as ph
 use Rattle.queue_code.specs.Calls.{Planned, IsOrderly, how_many, numbers, task_count, terms_of}
-use Rattle.executor_core.specs.View.{Fate, View, is_running, is_waiting}
-use Rattle.executor_core.specs.Answers.{Reply, is_queued, queue_size, running_count, is_terminated}
-use Rattle.executor_core.specs.Histories.{HistoryEntry, IsHistoryOf, view_of_history, happenings, is_submit, is_shutdown, cancels, was_accepted}
-use Rattle.executor_core.specs.State.{State, view_of_state, was_submitted, reply_of, next, after, move_task}
-use Rattle.executor_core.specs.own.Invariants.{IsSound}
+use Rattle.executor_model.specs.View.{Fate, View, is_running, is_waiting}
+use Rattle.executor_model.specs.Answers.{Reply, is_queued, queue_size, running_count, is_terminated}
+use Rattle.executor_model.specs.Histories.{HistoryEntry, IsHistoryOf, view_of_history, happenings, is_submit, is_shutdown, cancels, was_accepted}
+use Rattle.executor_model.specs.State.{State, view_of_state, was_submitted, reply_of, next, after, move_task}
+use Rattle.executor_model.specs.own.Soundness.{IsSound}
 use Rattle.executor_laws.specs.Policies.{QueuedAndRunningAreTasks, NothingStartsOnceTerminated}
-use Rattle.executor_core.proofs.First.{is_in, in_range}
-use Rattle.executor_core.proofs.Sound.{Finds, reply_finds, waits_in}
-use Rattle.executor_core.proofs.Agree.{after_agrees, answers_alike}
+use Rattle.executor_model.proofs.First.{is_in, in_range}
+use Rattle.executor_model.proofs.Sound.{Finds, reply_finds, waits_in}
+use Rattle.executor_model.proofs.Agree.{after_agrees, answers_alike}
 use Rattle.executor_laws.proofs.Replies.{IsAsk, told, ask_says}
 use Rattle.executor_laws.proofs.StartLaws.{means_front}
 use Rattle.executor_laws.proofs.Reading.{tasks_are_submitted}

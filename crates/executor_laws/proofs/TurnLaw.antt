@@ -4,19 +4,19 @@ use Rattle.std.specs.Prelude.{◌&&◌, ◌||◌, nat_lt, nat_le, slice_get, max
 use Rattle.std.specs.Option.{option_map_or}
 use Rattle.std.specs.List.{range_with_len, list_any}
 use Rattle.std.proofs.lemmas.Bool.{false≢true, and_parts, or_parts, eqb-true, eq-eqb}
-use Rattle.executor_core.specs.declared.types.Happening.{Happening}
-use Rattle.executor_core.specs.declared.types.Happening.TheVariants as h
-use Rattle.executor_core.specs.declared.types.EventError.TheVariants as x
-use Rattle.executor_core.specs.declared.types.Outcome.TheVariants as o
-use Rattle.executor_core.specs.declared.types.Answer.{Answer}
-use Rattle.executor_core.specs.declared.types.Answer.TheVariants as a
+use Rattle.executor_model.specs.declared.types.Happening.{Happening}
+use Rattle.executor_model.specs.declared.types.Happening.TheVariants as h
+use Rattle.executor_model.specs.declared.types.EventError.TheVariants as x
+use Rattle.executor_model.specs.declared.types.Outcome.TheVariants as o
+use Rattle.executor_model.specs.declared.types.Answer.{Answer}
+use Rattle.executor_model.specs.declared.types.Answer.TheVariants as a
 use Rattle.queue_code.specs.declared.call.CodeCall.{CodeCall}
-use Rattle.executor_core.specs.Queues.{comes_before}
+use Rattle.executor_model.specs.Queues.{comes_before}
 use Rattle.queue_code.specs.Calls.{Planned, how_many, numbers, task_count, IsOrderly}
-use Rattle.executor_core.specs.View.{View, is_waiting, is_enabled, first_enabled}
-use Rattle.executor_core.specs.Answers.{bare, reply, called, start_answer, finish_answer, effect_on}
-use Rattle.executor_core.specs.Histories.{HistoryEntry, IsHistoryOf, view_of_history, due_of, is_start, cancels}
-use Rattle.executor_core.proofs.Replies.{IsAnswerTo, by_answer}
+use Rattle.executor_model.specs.View.{View, is_waiting, is_enabled, first_enabled}
+use Rattle.executor_model.specs.Answers.{bare, reply, called, start_answer, finish_answer, effect_on}
+use Rattle.executor_model.specs.Histories.{HistoryEntry, IsHistoryOf, view_of_history, due_of, is_start, cancels}
+use Rattle.executor_model.proofs.Replies.{IsAnswerTo, by_answer}
 use Rattle.executor_laws.specs.Laws.{Starts}
 use Rattle.executor_laws.specs.Turns.{puts_ahead, serves, turns, ahead, TurnsCome}
 use Rattle.executor_laws.proofs.StartLaws.{starts_are_in_order}

@@ -4,22 +4,22 @@ use Rattle.std.specs.Prelude.{◌&&◌, ◌||◌, nat_lt, nat_le, slice_get}
 use Rattle.std.proofs.lemmas.Bool.{false≢true, and_parts, or_parts, eqb-true, eq-eqb, leb-true, le-leb, false_from_ne_true}
 use Rattle.std.proofs.lemmas.Bool.Decides.{nat_tests}
 use Rattle.sched_time.specs.declared.timing.Timing.{Timing}
-use Rattle.executor_core.specs.declared.types.Kind.{Kind}
-use Rattle.executor_core.specs.declared.types.Outcome.TheVariants as o
-use Rattle.executor_core.specs.declared.types.Answer.{Answer}
-use Rattle.executor_core.specs.declared.types.Answer.TheVariants as a
-use Rattle.executor_core.specs.declared.task.Stage.TheVariants as ph
-use Rattle.executor_core.specs.declared.task.Task.{Task}
-use Rattle.executor_core.specs.Queues.{comes_before}
+use Rattle.executor_model.specs.declared.types.Kind.{Kind}
+use Rattle.executor_model.specs.declared.types.Outcome.TheVariants as o
+use Rattle.executor_model.specs.declared.types.Answer.{Answer}
+use Rattle.executor_model.specs.declared.types.Answer.TheVariants as a
+use Rattle.executor_model.specs.declared.task.Stage.TheVariants as ph
+use Rattle.executor_model.specs.declared.task.Task.{Task}
+use Rattle.executor_model.specs.Queues.{comes_before}
 use Rattle.queue_code.specs.Calls.{Planned, IsOrderly, terms_of, due_at}
-use Rattle.executor_core.specs.View.{View, is_waiting, is_enabled}
-use Rattle.executor_core.specs.Answers.{Reply}
-use Rattle.executor_core.specs.Histories.{HistoryEntry, IsHistoryOf, happenings, made, now_of, view_of_history, due_of, is_start, is_finish, cancels}
-use Rattle.executor_core.specs.State.{State, after, view_of_state, seen_phase, due_seen, reply_of, move_task, submit_phase, end_task, due_past}
-use Rattle.executor_core.specs.own.Invariants.{IsSound}
-use Rattle.executor_core.proofs.Agree.{Agrees, after_agrees}
-use Rattle.executor_core.proofs.Sound.{Finds, reply_finds, waits_in, enabled_in, is_seen_waiting}
-use Rattle.executor_core.proofs.SoundSteps.{later}
+use Rattle.executor_model.specs.View.{View, is_waiting, is_enabled}
+use Rattle.executor_model.specs.Answers.{Reply}
+use Rattle.executor_model.specs.Histories.{HistoryEntry, IsHistoryOf, happenings, made, now_of, view_of_history, due_of, is_start, is_finish, cancels}
+use Rattle.executor_model.specs.State.{State, after, view_of_state, seen_phase, due_seen, reply_of, move_task, submit_phase, end_task, due_past}
+use Rattle.executor_model.specs.own.Soundness.{IsSound}
+use Rattle.executor_model.proofs.Agree.{Agrees, after_agrees}
+use Rattle.executor_model.proofs.Sound.{Finds, reply_finds, waits_in, enabled_in, is_seen_waiting}
+use Rattle.executor_model.proofs.SoundSteps.{later}
 use Rattle.executor_laws.proofs.Repeats.{again_is_due}
 use Rattle.executor_laws.proofs.Armed.{comes_to_wait, said, said_ends}
 use Rattle.executor_laws.proofs.NextCalls.{accepted_behind}

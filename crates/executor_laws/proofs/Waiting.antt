@@ -7,20 +7,20 @@ use Rattle.std.proofs.lemmas.Bool.{false≢true, eqb-true, and_parts, or_cases, 
 use Rattle.std.proofs.lemmas.Option.{none-some, same_Some}
 use Rattle.queue_code.specs.declared.call.CodeCall.{CodeCall}
 use Rattle.queue_code.specs.declared.call.CodeCall.TheVariants as c
-use Rattle.executor_core.specs.declared.types.EventError.TheVariants as x
-use Rattle.executor_core.specs.declared.types.Happening.{Happening}
-use Rattle.executor_core.specs.declared.types.Happening.TheVariants as h
-use Rattle.executor_core.specs.declared.types.Answer.{Answer}
-use Rattle.executor_core.specs.declared.types.Answer.TheVariants as a
+use Rattle.executor_model.specs.declared.types.EventError.TheVariants as x
+use Rattle.executor_model.specs.declared.types.Happening.{Happening}
+use Rattle.executor_model.specs.declared.types.Happening.TheVariants as h
+use Rattle.executor_model.specs.declared.types.Answer.{Answer}
+use Rattle.executor_model.specs.declared.types.Answer.TheVariants as a
 use Rattle.queue_code.specs.Calls.{Planned, numbers}
-use Rattle.executor_core.specs.View.{View, is_running, is_over, first_enabled}
-use Rattle.executor_core.specs.Answers.{bare, reply, called, start_answer, finish_answer, moment_after, effect_on}
-use Rattle.executor_core.specs.Histories.{HistoryEntry, IsHistoryOf, view_of_history, happenings, made, now_of, is_submit, is_finish, was_accepted, last_finish}
+use Rattle.executor_model.specs.View.{View, is_running, is_over, first_enabled}
+use Rattle.executor_model.specs.Answers.{bare, reply, called, start_answer, finish_answer, moment_after, effect_on}
+use Rattle.executor_model.specs.Histories.{HistoryEntry, IsHistoryOf, view_of_history, happenings, made, now_of, is_submit, is_finish, was_accepted, last_finish}
 use Rattle.executor_laws.specs.Positions.{IsSubmissionOf, WasSubmitted, WaitingIsATask, WaitingIsDueInTime, FinishedLast, LastFinishIsTheLast, FinishKeepsNow}
 use Rattle.executor_laws.proofs.Replies.{IsOfCall, call_answer}
 use Rattle.executor_laws.proofs.Reading.{tasks_are_submitted}
-use Rattle.executor_core.proofs.Replies.{IsAnswerTo, by_answer}
-use Rattle.executor_core.proofs.Within.{dues_within}
+use Rattle.executor_model.proofs.Replies.{IsAnswerTo, by_answer}
+use Rattle.executor_model.proofs.Within.{dues_within}
 
 -- ---- what an answer that submits a task says of what happened
 

@@ -5,25 +5,25 @@ use Rattle.std.specs.Option.{option_map_or}
 use Rattle.std.proofs.lemmas.Bool.{false≢true, eqb-true}
 use Rattle.queue_code.specs.declared.call.CodeCall.{CodeCall}
 use Rattle.task_word.specs.Words.{is_live}
-use Rattle.executor_core.specs.declared.types.EventError.TheVariants as x
-use Rattle.executor_core.specs.declared.types.CancelEffect.TheVariants as f
-use Rattle.executor_core.specs.declared.types.Happening.{Happening}
-use Rattle.executor_core.specs.declared.types.Happening.TheVariants as h
-use Rattle.executor_core.specs.declared.types.Outcome.TheVariants as o
-use Rattle.executor_core.specs.declared.types.Answer.{Answer}
-use Rattle.executor_core.specs.declared.types.Answer.TheVariants as a
-use Rattle.executor_core.specs.declared.task.Stage.{Stage}
-use Rattle.executor_core.specs.declared.task.Stage.TheVariants as ph
-use Rattle.executor_core.specs.declared.task.Task.{Task}
+use Rattle.executor_model.specs.declared.types.EventError.TheVariants as x
+use Rattle.executor_model.specs.declared.types.CancelEffect.TheVariants as f
+use Rattle.executor_model.specs.declared.types.Happening.{Happening}
+use Rattle.executor_model.specs.declared.types.Happening.TheVariants as h
+use Rattle.executor_model.specs.declared.types.Outcome.TheVariants as o
+use Rattle.executor_model.specs.declared.types.Answer.{Answer}
+use Rattle.executor_model.specs.declared.types.Answer.TheVariants as a
+use Rattle.executor_model.specs.declared.task.Stage.{Stage}
+use Rattle.executor_model.specs.declared.task.Stage.TheVariants as ph
+use Rattle.executor_model.specs.declared.task.Task.{Task}
 use Rattle.queue_code.specs.Calls.{Planned, Terms, numbers, task_count, terms_of}
-use Rattle.executor_core.specs.View.{first_enabled}
-use Rattle.executor_core.specs.Answers.{bare, called, start_answer, finish_answer, outcome_in, stops_periodic, due_next, effect_on}
-use Rattle.executor_core.specs.State.{State, view_of_state, seen_task, reply_of}
-use Rattle.executor_core.specs.Tasks.{word_phase}
-use Rattle.executor_core.specs.own.Invariants.{IsSound}
-use Rattle.executor_core.proofs.Replies.{IsAnswerTo, answers_call}
-use Rattle.executor_core.proofs.Sound.{Finds, reply_finds}
-use Rattle.executor_core.proofs.Cancels.{of_vacant, of_done, of_failed}
+use Rattle.executor_model.specs.View.{first_enabled}
+use Rattle.executor_model.specs.Answers.{bare, called, start_answer, finish_answer, outcome_in, stops_periodic, due_next, effect_on}
+use Rattle.executor_model.specs.State.{State, view_of_state, seen_task, reply_of}
+use Rattle.executor_model.specs.Tasks.{word_phase}
+use Rattle.executor_model.specs.own.Soundness.{IsSound}
+use Rattle.executor_model.proofs.Replies.{IsAnswerTo, answers_call}
+use Rattle.executor_model.proofs.Sound.{Finds, reply_finds}
+use Rattle.executor_model.proofs.Effects.{of_vacant, of_done, of_failed}
 use Rattle.executor_laws.proofs.Replies.{SaysEffect, call_effect}
 
 -- what an answer finds of task k

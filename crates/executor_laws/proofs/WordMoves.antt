@@ -4,25 +4,25 @@ use Rattle.std.specs.List.{list_any}
 use Rattle.std.proofs.lemmas.Bool.{false≢true, false_from_ne_true, or_parts, or_from}
 use Rattle.task_word.specs.Writes.{Kind, submit, start, done, fail, rearm, core_cancel}
 use Rattle.queue_code.specs.Calls.{Planned, IsOrderly, task_count, terms_of}
-use Rattle.executor_core.specs.declared.task.Stage.{Stage}
-use Rattle.executor_core.specs.declared.task.Stage.TheVariants as ph
-use Rattle.executor_core.specs.declared.task.Task.{Task}
-use Rattle.executor_core.specs.declared.types.CancelEffect.{CancelEffect}
-use Rattle.executor_core.specs.declared.types.CancelEffect.TheVariants as f
-use Rattle.executor_core.specs.declared.types.Outcome.{Outcome}
-use Rattle.executor_core.specs.declared.types.Outcome.TheVariants as o
-use Rattle.executor_core.specs.declared.types.Answer.{Answer}
-use Rattle.executor_core.specs.declared.types.Answer.TheVariants as a
-use Rattle.executor_core.specs.declared.types.Happening.{Happening}
-use Rattle.executor_core.specs.declared.types.Need.{Need}
-use Rattle.executor_core.specs.declared.types.Need.TheVariants as n
-use Rattle.executor_core.specs.View.{View}
-use Rattle.executor_core.specs.Histories.{HistoryEntry, IsHistoryOf, happenings, made, is_submit, had_effect, is_end, is_ended, is_sweep, was_accepted}
-use Rattle.executor_core.specs.State.{State, view_of_state, was_submitted, reply_of, after, submit_phase, finish_task}
-use Rattle.executor_core.specs.Tasks.{word_of_task, word_phase}
-use Rattle.executor_core.specs.Needs.{need_of, need_of_answer, need_of_cancel, need_of_finish}
-use Rattle.executor_core.proofs.Agree.{after_agrees}
-use Rattle.executor_core.proofs.Sound.{waits_in}
+use Rattle.executor_model.specs.declared.task.Stage.{Stage}
+use Rattle.executor_model.specs.declared.task.Stage.TheVariants as ph
+use Rattle.executor_model.specs.declared.task.Task.{Task}
+use Rattle.executor_model.specs.declared.types.CancelEffect.{CancelEffect}
+use Rattle.executor_model.specs.declared.types.CancelEffect.TheVariants as f
+use Rattle.executor_model.specs.declared.types.Outcome.{Outcome}
+use Rattle.executor_model.specs.declared.types.Outcome.TheVariants as o
+use Rattle.executor_model.specs.declared.types.Answer.{Answer}
+use Rattle.executor_model.specs.declared.types.Answer.TheVariants as a
+use Rattle.executor_model.specs.declared.types.Happening.{Happening}
+use Rattle.executor_model.specs.declared.types.Need.{Need}
+use Rattle.executor_model.specs.declared.types.Need.TheVariants as n
+use Rattle.executor_model.specs.View.{View}
+use Rattle.executor_model.specs.Histories.{HistoryEntry, IsHistoryOf, happenings, made, is_submit, had_effect, is_end, is_ended, is_sweep, was_accepted}
+use Rattle.executor_model.specs.State.{State, view_of_state, was_submitted, reply_of, after, submit_phase, finish_task}
+use Rattle.executor_model.specs.Tasks.{word_of_task, word_phase}
+use Rattle.executor_model.specs.Needs.{need_of, need_of_answer, need_of_cancel, need_of_finish}
+use Rattle.executor_model.proofs.Agree.{after_agrees}
+use Rattle.executor_model.proofs.Sound.{waits_in}
 use Rattle.executor_laws.specs.NeedWrites.{writes_of, NeedsMoveWords}
 use Rattle.executor_laws.proofs.Replies.{ends_say}
 use Rattle.executor_laws.proofs.Reading.{tasks_are_submitted}

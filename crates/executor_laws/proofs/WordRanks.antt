@@ -2,18 +2,18 @@
 use Rattle.std.proofs.Common.{◌≡◌, ℕ, ◌+◌, ◌*◌, ◌≤◌, ◌==◌, Bool, true, false, cond, refl, ap, arith}
 use Rattle.task_word.specs.Words.{rank, rank_in}
 use Rattle.sched_time.specs.declared.timing.Timing.{Timing}
-use Rattle.executor_core.specs.declared.types.Outcome.{Outcome}
-use Rattle.executor_core.specs.declared.types.Outcome.TheVariants as o
-use Rattle.executor_core.specs.declared.types.Answer.{Answer}
-use Rattle.executor_core.specs.declared.types.Answer.TheVariants as a
-use Rattle.executor_core.specs.declared.task.Stage.{Stage}
-use Rattle.executor_core.specs.declared.task.Stage.TheVariants as ph
-use Rattle.executor_core.specs.declared.task.Task.{Task}
+use Rattle.executor_model.specs.declared.types.Outcome.{Outcome}
+use Rattle.executor_model.specs.declared.types.Outcome.TheVariants as o
+use Rattle.executor_model.specs.declared.types.Answer.{Answer}
+use Rattle.executor_model.specs.declared.types.Answer.TheVariants as a
+use Rattle.executor_model.specs.declared.task.Stage.{Stage}
+use Rattle.executor_model.specs.declared.task.Stage.TheVariants as ph
+use Rattle.executor_model.specs.declared.task.Task.{Task}
 use Rattle.queue_code.specs.Calls.{terms_of}
-use Rattle.executor_core.specs.Histories.{happenings}
-use Rattle.executor_core.specs.State.{reply_of, after, move_task, submit_phase, end_task, finish_task, due_past}
-use Rattle.executor_core.specs.Tasks.{word_phase, word_of_task}
-use Rattle.executor_core.proofs.Agree.{after_agrees}
+use Rattle.executor_model.specs.Histories.{happenings}
+use Rattle.executor_model.specs.State.{reply_of, after, move_task, submit_phase, end_task, finish_task, due_past}
+use Rattle.executor_model.specs.Tasks.{word_phase, word_of_task}
+use Rattle.executor_model.proofs.Agree.{after_agrees}
 use Rattle.executor_laws.specs.TaskWords.{RanksDoNotFall}
 use Rattle.executor_laws.proofs.WordAnswers.{Meets, meets}
 

@@ -8,23 +8,23 @@ use Rattle.task_word.specs.Writes.{Kind, submit, start, done, fail, rearm, core_
 use Rattle.task_word.specs.declared.phases.Phase.{Phase as WordPhase}
 use Rattle.task_word.specs.declared.phases.Phase.TheVariants as w
 use Rattle.queue_code.specs.Calls.{Planned, task_count, terms_of}
-use Rattle.executor_core.specs.declared.task.Stage.{Stage}
-use Rattle.executor_core.specs.declared.task.Stage.TheVariants as ph
-use Rattle.executor_core.specs.declared.task.Task.{Task}
-use Rattle.executor_core.specs.declared.types.CancelEffect.{CancelEffect}
-use Rattle.executor_core.specs.declared.types.CancelEffect.TheVariants as f
-use Rattle.executor_core.specs.declared.types.Outcome.{Outcome}
-use Rattle.executor_core.specs.declared.types.Outcome.TheVariants as o
-use Rattle.executor_core.specs.declared.types.Kind.{Kind as TaskKind}
-use Rattle.executor_core.specs.declared.types.Answer.{Answer}
-use Rattle.executor_core.specs.declared.types.Answer.TheVariants as a
-use Rattle.executor_core.specs.declared.types.Need.TheVariants as n
-use Rattle.executor_core.specs.Answers.{setting_sweeps, effect_on}
-use Rattle.executor_core.specs.Histories.{is_submit, had_effect, is_end}
-use Rattle.executor_core.specs.State.{State, seen_task, was_submitted, task_after, submit_phase, finish_task}
-use Rattle.executor_core.specs.Tasks.{word_of_task, word_phase}
-use Rattle.executor_core.specs.Needs.{need_of_answer, need_of_cancel, need_of_finish}
-use Rattle.executor_core.proofs.Cancels.{live_is_uncancelled}
+use Rattle.executor_model.specs.declared.task.Stage.{Stage}
+use Rattle.executor_model.specs.declared.task.Stage.TheVariants as ph
+use Rattle.executor_model.specs.declared.task.Task.{Task}
+use Rattle.executor_model.specs.declared.types.CancelEffect.{CancelEffect}
+use Rattle.executor_model.specs.declared.types.CancelEffect.TheVariants as f
+use Rattle.executor_model.specs.declared.types.Outcome.{Outcome}
+use Rattle.executor_model.specs.declared.types.Outcome.TheVariants as o
+use Rattle.executor_model.specs.declared.types.Kind.{Kind as TaskKind}
+use Rattle.executor_model.specs.declared.types.Answer.{Answer}
+use Rattle.executor_model.specs.declared.types.Answer.TheVariants as a
+use Rattle.executor_model.specs.declared.types.Need.TheVariants as n
+use Rattle.executor_model.specs.Answers.{setting_sweeps, effect_on}
+use Rattle.executor_model.specs.Histories.{is_submit, had_effect, is_end}
+use Rattle.executor_model.specs.State.{State, seen_task, was_submitted, task_after, submit_phase, finish_task}
+use Rattle.executor_model.specs.Tasks.{word_of_task, word_phase}
+use Rattle.executor_model.specs.Needs.{need_of_answer, need_of_cancel, need_of_finish}
+use Rattle.executor_model.proofs.Effects.{live_is_uncancelled}
 use Rattle.executor_laws.specs.NeedWrites.{writes_of, IsWritten}
 use Rattle.executor_laws.proofs.WordAnswers.{Meets, Says, says}
 

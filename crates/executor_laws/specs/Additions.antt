@@ -2,14 +2,14 @@
 -- All of it is this project's rule.
 use Rattle.std.specs.Prelude.{◌≡◌, ℕ, ◌<◌, ◌≤◌, ◌⊎◌, List, [], ◌∷◌, ◌++◌}
 use Rattle.std.specs.List.{All}
-use Rattle.executor_core.specs.declared.types.Happening.{Happening}
-use Rattle.executor_core.specs.declared.types.Happening.TheVariants as h
-use Rattle.executor_core.specs.declared.types.Answer.{Answer}
-use Rattle.executor_core.specs.declared.types.Answer.TheVariants as a
+use Rattle.executor_model.specs.declared.types.Happening.{Happening}
+use Rattle.executor_model.specs.declared.types.Happening.TheVariants as h
+use Rattle.executor_model.specs.declared.types.Answer.{Answer}
+use Rattle.executor_model.specs.declared.types.Answer.TheVariants as a
 use Rattle.queue_code.specs.Calls.{Planned, IsOrderly, task_count}
-use Rattle.executor_core.specs.Histories.{HistoryEntry, happenings, now_of, IsHistoryOf}
-use Rattle.executor_core.specs.State.{after}
-use Rattle.executor_core.specs.Flows.{lines_of}
+use Rattle.executor_model.specs.Histories.{HistoryEntry, happenings, now_of, IsHistoryOf}
+use Rattle.executor_model.specs.State.{after}
+use Rattle.executor_model.specs.Flows.{lines_of}
 
 -- what happened, and was answered so, looks at no call of this moment or a later one, and at no task from the number `count` on:
 -- a clock that was accepted is before the moment, and a cancel from outside names a task below `count`, or a number from

@@ -3,9 +3,9 @@
 -- Where it names no source, it is this project's rule.
 use Rattle.std.specs.Prelude.{◌≡◌, ℕ, ◌==◌, ◌++◌, ◌∷◌, ◌⊎◌, ◌↔◌, Bool, true, false, List, length}
 use Rattle.std.specs.List.{list_any}
-use Rattle.executor_core.specs.declared.types.Answer.TheVariants as a
+use Rattle.executor_model.specs.declared.types.Answer.TheVariants as a
 use Rattle.queue_code.specs.Calls.{Planned, IsOrderly}
-use Rattle.executor_core.specs.Histories.{HistoryEntry, IsHistoryOf, starts, finishes, was_accepted, was_cancelled, was_done, was_failed}
+use Rattle.executor_model.specs.Histories.{HistoryEntry, IsHistoryOf, starts, finishes, was_accepted, was_cancelled, was_done, was_failed}
 use Rattle.executor_laws.specs.Policies.{AscendsFrom, KeptSince, ShutdownWasMade}
 
 -- task k waits: it was accepted and has finished as often as it started, and it was not cancelled, is not done and has

@@ -8,21 +8,21 @@ use Rattle.task_word.specs.Writes.{Kind}
 use Rattle.task_word.specs.declared.phases.Phase.{Phase as WordPhase}
 use Rattle.task_word.specs.declared.phases.Phase.TheVariants as w
 use Rattle.queue_code.specs.Calls.{Planned, IsOrderly, numbers, task_count}
-use Rattle.executor_core.specs.declared.types.EventError.TheVariants as x
-use Rattle.executor_core.specs.declared.types.CancelEffect.{CancelEffect}
-use Rattle.executor_core.specs.declared.types.CancelEffect.TheVariants as f
-use Rattle.executor_core.specs.declared.types.Happening.{Happening}
-use Rattle.executor_core.specs.declared.types.Happening.TheVariants as h
-use Rattle.executor_core.specs.declared.types.Answer.{Answer}
-use Rattle.executor_core.specs.declared.types.Answer.TheVariants as a
-use Rattle.executor_core.specs.declared.types.Need.{Need}
-use Rattle.executor_core.specs.declared.types.Need.TheVariants as n
-use Rattle.executor_core.specs.View.{is_waiting, is_enabled, first_enabled}
-use Rattle.executor_core.specs.Answers.{bare, queue_size, is_terminated}
-use Rattle.executor_core.specs.Histories.{HistoryEntry, IsHistoryOf, happenings, is_call, is_end}
-use Rattle.executor_core.specs.State.{State, view_of_state, after, next, reply_of}
-use Rattle.executor_core.specs.Tasks.{word_of_task}
-use Rattle.executor_core.specs.Needs.{need_of}
+use Rattle.executor_model.specs.declared.types.EventError.TheVariants as x
+use Rattle.executor_model.specs.declared.types.CancelEffect.{CancelEffect}
+use Rattle.executor_model.specs.declared.types.CancelEffect.TheVariants as f
+use Rattle.executor_model.specs.declared.types.Happening.{Happening}
+use Rattle.executor_model.specs.declared.types.Happening.TheVariants as h
+use Rattle.executor_model.specs.declared.types.Answer.{Answer}
+use Rattle.executor_model.specs.declared.types.Answer.TheVariants as a
+use Rattle.executor_model.specs.declared.types.Need.{Need}
+use Rattle.executor_model.specs.declared.types.Need.TheVariants as n
+use Rattle.executor_model.specs.View.{is_waiting, is_enabled, first_enabled}
+use Rattle.executor_model.specs.Answers.{bare, queue_size, is_terminated}
+use Rattle.executor_model.specs.Histories.{HistoryEntry, IsHistoryOf, happenings, is_call, is_end}
+use Rattle.executor_model.specs.State.{State, view_of_state, after, next, reply_of}
+use Rattle.executor_model.specs.Tasks.{word_of_task}
+use Rattle.executor_model.specs.Needs.{need_of}
 use Rattle.executor_laws.specs.NeedWrites.{writes_of}
 
 -- ---- by the word of the task

@@ -5,15 +5,15 @@ use Rattle.std.specs.Prelude.{◌≡◌, ℕ, ◌+◌, ◌*◌, ◌<◌, ◌≤�
 use Rattle.std.specs.List.{list_any}
 use Rattle.sched_time.specs.declared.timing.Timing.TheVariants as t
 use Rattle.queue_code.specs.declared.call.CodeCall.TheVariants as c
-use Rattle.executor_core.specs.declared.types.Outcome.TheVariants as o
-use Rattle.executor_core.specs.declared.types.Event.{Event}
-use Rattle.executor_core.specs.declared.types.Happening.{Happening}
-use Rattle.executor_core.specs.declared.types.Answer.TheVariants as a
+use Rattle.executor_model.specs.declared.types.Outcome.TheVariants as o
+use Rattle.executor_model.specs.declared.types.Event.{Event}
+use Rattle.executor_model.specs.declared.types.Happening.{Happening}
+use Rattle.executor_model.specs.declared.types.Answer.TheVariants as a
 use Rattle.queue_code.specs.Calls.{Planned, IsOrderly, task_count}
-use Rattle.executor_core.specs.View.{is_enabled, precedes}
-use Rattle.executor_core.specs.Histories.{HistoryEntry, IsHistoryOf, starts, MayCome, happenings, is_cancel, cancels, is_finish, view_of_history, due_of, now_of, answer}
-use Rattle.executor_core.specs.State.{after, view_of_state}
-use Rattle.executor_core.specs.Flows.{flow, history_of}
+use Rattle.executor_model.specs.View.{is_enabled, precedes}
+use Rattle.executor_model.specs.Histories.{HistoryEntry, IsHistoryOf, starts, MayCome, happenings, is_cancel, cancels, is_finish, view_of_history, due_of, now_of, answer}
+use Rattle.executor_model.specs.State.{after, view_of_state}
+use Rattle.executor_model.specs.Flows.{flow, history_of}
 use Rattle.executor_laws.specs.Positions.{FinishedLast}
 
 -- a start stands in the history, and this is what it says

@@ -3,18 +3,18 @@ use Rattle.std.specs.Prelude.{◌≡◌, ℕ, ◌<◌, ◌≤◌, List, ◌∷�
 use Rattle.sched_time.specs.Times.{longest}
 use Rattle.sched_time.specs.declared.timing.Ending.{Ending}
 use Rattle.sched_time.specs.declared.timing.Ending.TheVariants as e
-use Rattle.executor_core.specs.declared.types.Happening.TheVariants as h
-use Rattle.executor_core.specs.declared.types.Outcome.{Outcome}
-use Rattle.executor_core.specs.declared.types.Outcome.TheVariants as o
-use Rattle.executor_core.specs.declared.types.Answer.{Answer}
-use Rattle.executor_core.specs.declared.types.Answer.TheVariants as a
-use Rattle.executor_core.specs.declared.types.Line.{Line}
-use Rattle.executor_core.specs.declared.types.Message.{Message}
-use Rattle.executor_core.specs.declared.types.Message.TheVariants as m
+use Rattle.executor_model.specs.declared.types.Happening.TheVariants as h
+use Rattle.executor_model.specs.declared.types.Outcome.{Outcome}
+use Rattle.executor_model.specs.declared.types.Outcome.TheVariants as o
+use Rattle.executor_model.specs.declared.types.Answer.{Answer}
+use Rattle.executor_model.specs.declared.types.Answer.TheVariants as a
+use Rattle.executor_model.specs.declared.types.Line.{Line}
+use Rattle.executor_model.specs.declared.types.Message.{Message}
+use Rattle.executor_model.specs.declared.types.Message.TheVariants as m
 use Rattle.queue_code.specs.Calls.{Planned, IsOrderly, task_count}
-use Rattle.executor_core.specs.Histories.{HistoryEntry, IsHistoryOf}
-use Rattle.executor_core.specs.Within.{latest_due}
-use Rattle.executor_core.specs.Flows.{lines_of}
+use Rattle.executor_model.specs.Histories.{HistoryEntry, IsHistoryOf}
+use Rattle.executor_model.specs.Within.{latest_due}
+use Rattle.executor_model.specs.Flows.{lines_of}
 
 -- a run ended so: a finish in the history says it
 pub record RunEnded (past : List HistoryEntry) (ending : Ending) : Type 0 where

@@ -4,13 +4,13 @@ use Rattle.std.specs.List.{All, list_any}
 use Rattle.task_word.specs.Words.{Parts, is_cancelled}
 use Rattle.task_word.specs.Writes.{Kind, submit, start, done, fail, rearm, core_cancel, ChangesWord, sets_bit}
 use Rattle.queue_code.specs.Calls.{Planned, IsOrderly, task_count}
-use Rattle.executor_core.specs.declared.types.Happening.{Happening}
-use Rattle.executor_core.specs.declared.types.Need.{Need}
-use Rattle.executor_core.specs.declared.types.Need.TheVariants as n
-use Rattle.executor_core.specs.Histories.{HistoryEntry, IsHistoryOf, happenings}
-use Rattle.executor_core.specs.State.{State, after, next, reply_of}
-use Rattle.executor_core.specs.Tasks.{word_of_task}
-use Rattle.executor_core.specs.Needs.{need_of}
+use Rattle.executor_model.specs.declared.types.Happening.{Happening}
+use Rattle.executor_model.specs.declared.types.Need.{Need}
+use Rattle.executor_model.specs.declared.types.Need.TheVariants as n
+use Rattle.executor_model.specs.Histories.{HistoryEntry, IsHistoryOf, happenings}
+use Rattle.executor_model.specs.State.{State, after, next, reply_of}
+use Rattle.executor_model.specs.Tasks.{word_of_task}
+use Rattle.executor_model.specs.Needs.{need_of}
 
 -- the writes that a need names, each of the word of a task and of a kind, where the step ends these tasks: a sweep
 -- cancels them

@@ -8,14 +8,14 @@ use Rattle.sched_time.specs.declared.policies.Which.TheVariants as p
 use Rattle.queue_code.specs.declared.call.CodeCall.{CodeCall}
 use Rattle.queue_code.specs.declared.call.CodeCall.TheVariants as c
 use Rattle.sched_time.specs.declared.policies.Policies.{Policies}
-use Rattle.executor_core.specs.declared.types.Refusal.{Refusal}
-use Rattle.executor_core.specs.declared.types.Answer.{Answer}
-use Rattle.executor_core.specs.declared.types.Answer.TheVariants as a
+use Rattle.executor_model.specs.declared.types.Refusal.{Refusal}
+use Rattle.executor_model.specs.declared.types.Answer.{Answer}
+use Rattle.executor_model.specs.declared.types.Answer.TheVariants as a
 use Rattle.queue_code.specs.Calls.{Planned, IsOrderly, task_count}
-use Rattle.executor_core.specs.View.{View, is_waiting, is_running}
-use Rattle.executor_core.specs.Answers.{is_swept, is_queued, swept}
+use Rattle.executor_model.specs.View.{View, is_waiting, is_running}
+use Rattle.executor_model.specs.Answers.{is_swept, is_queued, swept}
 use Rattle.sched_time.specs.Policies.{default_policies}
-use Rattle.executor_core.specs.Histories.{HistoryEntry, IsHistoryOf, happenings, made, now_of, starts, due_of, is_submit, is_cancel, is_end, is_finish_with, is_ended, cancels, is_sweep, meets, is_kept, policies_of, was_shut, was_stopped, view_of_history}
+use Rattle.executor_model.specs.Histories.{HistoryEntry, IsHistoryOf, happenings, made, now_of, starts, due_of, is_submit, is_cancel, is_end, is_finish_with, is_ended, cancels, is_sweep, meets, is_kept, policies_of, was_shut, was_stopped, view_of_history}
 use Rattle.executor_laws.specs.Laws.{Starts}
 
 -- after a task is ended, by a line of its own or at the end of its run, nothing of it starts

@@ -3,14 +3,14 @@ use Rattle.std.specs.Prelude.{◌≡◌, ℕ, ◌+◌, ◌≤◌, ◌↔◌, tru
 use Rattle.task_word.specs.declared.phases.Phase.{Phase as WordPhase}
 use Rattle.task_word.specs.declared.phases.Phase.TheVariants as w
 use Rattle.task_word.specs.Words.{Parts, rank, is_cancelled}
-use Rattle.executor_core.specs.declared.types.EventError.{EventError}
-use Rattle.executor_core.specs.declared.types.Happening.{Happening}
-use Rattle.executor_core.specs.declared.types.Answer.TheVariants as a
+use Rattle.executor_model.specs.declared.types.EventError.{EventError}
+use Rattle.executor_model.specs.declared.types.Happening.{Happening}
+use Rattle.executor_model.specs.declared.types.Answer.TheVariants as a
 use Rattle.queue_code.specs.Calls.{Planned}
-use Rattle.executor_core.specs.View.{is_waiting, is_running}
-use Rattle.executor_core.specs.Histories.{HistoryEntry, IsHistoryOf, view_of_history, happenings, starts, was_accepted, was_cancelled, was_done, was_failed}
-use Rattle.executor_core.specs.State.{State, after, next, reply_of}
-use Rattle.executor_core.specs.Tasks.{word_of_task}
+use Rattle.executor_model.specs.View.{is_waiting, is_running}
+use Rattle.executor_model.specs.Histories.{HistoryEntry, IsHistoryOf, view_of_history, happenings, starts, was_accepted, was_cancelled, was_done, was_failed}
+use Rattle.executor_model.specs.State.{State, after, next, reply_of}
+use Rattle.executor_model.specs.Tasks.{word_of_task}
 
 -- the word of task k in the state that a history leads to
 abbrev pub word_after : List Planned → ℕ → List HistoryEntry → ℕ → Parts

@@ -3,14 +3,14 @@
 -- Where it names no source, it is this project's rule.
 use Rattle.std.specs.Prelude.{◌≡◌, ℕ, ◌+◌, ◌<◌, ◌≤◌, ◌==◌, ◌&&◌, ◌||◌, ◌⊎◌, Bool, true, false, List, ◌∷◌, ◌++◌}
 use Rattle.std.specs.List.{list_any}
-use Rattle.executor_core.specs.Queues.{comes_before}
-use Rattle.executor_core.specs.declared.types.Outcome.TheVariants as o
-use Rattle.executor_core.specs.declared.types.Answer.{Answer}
-use Rattle.executor_core.specs.declared.types.Answer.TheVariants as a
+use Rattle.executor_model.specs.Queues.{comes_before}
+use Rattle.executor_model.specs.declared.types.Outcome.TheVariants as o
+use Rattle.executor_model.specs.declared.types.Answer.{Answer}
+use Rattle.executor_model.specs.declared.types.Answer.TheVariants as a
 use Rattle.queue_code.specs.Calls.{Planned, how_many, numbers, task_count, IsOrderly}
-use Rattle.executor_core.specs.View.{View, is_waiting, is_enabled, precedes}
-use Rattle.executor_core.specs.Histories.{HistoryEntry, IsHistoryOf, view_of_history, due_of, is_start, cancels, was_accepted, was_cancelled, was_done, was_failed}
-use Rattle.executor_core.specs.Within.{latest_due}
+use Rattle.executor_model.specs.View.{View, is_waiting, is_enabled, precedes}
+use Rattle.executor_model.specs.Histories.{HistoryEntry, IsHistoryOf, view_of_history, due_of, is_start, cancels, was_accepted, was_cancelled, was_done, was_failed}
+use Rattle.executor_model.specs.Within.{latest_due}
 use Rattle.executor_laws.specs.Positions.{StartedLast}
 
 -- ---- never lost

@@ -1,16 +1,11 @@
 //! What the comparisons of the executor's types say: `==` is true of a value and itself, and leaves no field out. That of lines is
-//! [`line_equality_tells`](executor_core::line_equality_tells).
+//! [`line_equality_tells`](executor_model::line_equality_tells).
 ghost use Rattle.std.specs.Prelude.{◌≡◌, ◌↔◌, true};
 
-use executor_core::{
-    Answer, CancelEffect, CoreError, Event, EventError, Happening, Kind, Message, Need, Outcome,
-    Refusal, Stage, Task,
+use executor_model::{
+    Answer, CancelEffect, Event, EventError, Happening, Kind, Message, Need, Outcome, Refusal,
+    Stage, Task,
 };
-
-/// Two errors of a core compare as equal exactly when they are the same.
-pub fn core_error_equality_tells()
-    ensures { (a b : CoreError) → (⟦<CoreError as PartialEq>⟧.eq a b ≡ true) ↔ (a ≡ b) }
-{}
 
 /// Two stages compare as equal exactly when they are the same.
 pub fn stage_equality_tells()

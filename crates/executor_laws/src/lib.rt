@@ -49,10 +49,10 @@ pub use cancels::{
     cancels_go_by_words, cancels_touch_one_task, only_calls_sweep, outside_needs_its_cancel,
 };
 pub use equality::{
-    answer_equality_tells, cancel_effect_equality_tells, core_error_equality_tells,
-    event_equality_tells, event_error_equality_tells, happening_equality_tells,
-    kind_equality_tells, message_equality_tells, need_equality_tells, outcome_equality_tells,
-    refusal_equality_tells, stage_equality_tells, task_equality_tells,
+    answer_equality_tells, cancel_effect_equality_tells, event_equality_tells,
+    event_error_equality_tells, happening_equality_tells, kind_equality_tells,
+    message_equality_tells, need_equality_tells, outcome_equality_tells, refusal_equality_tells,
+    stage_equality_tells, task_equality_tells,
 };
 pub use laws::{
     again_is_due, answers_by_position, cancels_have_one_effect, fixed_runs_are_due,

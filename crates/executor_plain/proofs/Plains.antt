@@ -5,15 +5,15 @@ use Rattle.std.specs.List.{filter, range_with_len}
 use Rattle.std.specs.Option.{option_map_or}
 use Rattle.std.proofs.lemmas.List.{length-map, take_more, reverse-append}
 use Rattle.queue_code.specs.declared.call.CodeCall.{CodeCall}
-use Rattle.executor_core.specs.declared.types.Event.{Event}
-use Rattle.executor_core.specs.declared.types.Happening.{Happening}
-use Rattle.executor_core.specs.declared.types.Happening.TheVariants as h
-use Rattle.executor_core.specs.declared.types.Answer.TheVariants as a
+use Rattle.executor_model.specs.declared.types.Event.{Event}
+use Rattle.executor_model.specs.declared.types.Happening.{Happening}
+use Rattle.executor_model.specs.declared.types.Happening.TheVariants as h
+use Rattle.executor_model.specs.declared.types.Answer.TheVariants as a
 use Rattle.queue_code.specs.Calls.{Planned, how_many, task_count, submits_task}
-use Rattle.executor_core.specs.Answers.{bare, called}
-use Rattle.executor_core.specs.Histories.{HistoryEntry, happenings, made, is_call, is_start, is_finish, starts, finishes, view_of_history, now_of, answer}
-use Rattle.executor_core.specs.Flows.{history_from, history_of, part_of, calls_before}
-use Rattle.executor_core.proofs.Flowing.{how_many-le, history_more}
+use Rattle.executor_model.specs.Answers.{bare, called}
+use Rattle.executor_model.specs.Histories.{HistoryEntry, happenings, made, is_call, is_start, is_finish, starts, finishes, view_of_history, now_of, answer}
+use Rattle.executor_model.specs.Flows.{history_from, history_of, part_of, calls_before}
+use Rattle.executor_model.proofs.Flowing.{how_many-le, history_more}
 
 -- what is counted is at most as long as the history
 

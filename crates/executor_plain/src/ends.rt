@@ -1,14 +1,14 @@
 ghost use Rattle.std.specs.Prelude.{◌≡◌, IfOk};
 ghost use Rattle.queue_code.specs.Calls.{IsPlanned};
-ghost use Rattle.executor_core.specs.Answers as answers;
-ghost use Rattle.executor_core.specs.Histories as histories;
-ghost use Rattle.executor_core.specs.Within.{IsAnsweredByTable};
+ghost use Rattle.executor_model.specs.Answers as answers;
+ghost use Rattle.executor_model.specs.Histories as histories;
+ghost use Rattle.executor_model.specs.Within.{IsAnsweredByTable};
 ghost use Rattle.executor_plain.specs.own.Plain.{IsAnsweredBySome};
 
 use crate::history::{Past, call_at, made, now_of, policies_of, was_shut, was_stopped};
 use crate::policies::{is_ended_by, set_policy, setting_sweeps};
 use crate::tasks::{count_tasks, due_of, is_waiting, timing_of};
-use executor_core::Happening;
+use executor_model::Happening;
 use queue_code::CodeCall;
 use sched_time::Policies;
 use std::alloc::{AllocError, Allocator};

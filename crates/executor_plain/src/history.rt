@@ -1,13 +1,13 @@
 ghost use Rattle.std.specs.Prelude.{◌≡◌, slice_get};
-ghost use Rattle.executor_core.specs.Histories as histories;
-ghost use Rattle.executor_core.specs.Answers as answers;
+ghost use Rattle.executor_model.specs.Histories as histories;
+ghost use Rattle.executor_model.specs.Answers as answers;
 
 use crate::policies::{default_policies, policies_after};
 use crate::telling::{
     cancels, is_done_finish, is_failed_finish, is_finish, is_shutdown, is_start, is_stop,
     is_submit, work_after,
 };
-use executor_core::{Answer, Happening};
+use executor_model::{Answer, Happening};
 use queue_code::CodeCall;
 use sched_time::{LONGEST, Policies};
 use std::alloc::Allocator;
@@ -26,7 +26,7 @@ pub struct Past<A: Allocator> {
 }
 
 impl<A: Allocator> Model for Past<A> {
-    ghost use Rattle.executor_core.specs.Histories.{HistoryEntry};
+    ghost use Rattle.executor_model.specs.Histories.{HistoryEntry};
 
     ghost Value = { HistoryEntry };
 

@@ -1,13 +1,13 @@
 ghost use Rattle.std.specs.Prelude.{◌≡◌};
 ghost use Rattle.queue_code.specs.Calls.{IsPlanned};
-ghost use Rattle.executor_core.specs.Histories as histories;
+ghost use Rattle.executor_model.specs.Histories as histories;
 ghost use Rattle.executor_plain.specs.own.Plain.{IsAnsweredBySome};
 
 use crate::history::{Past, policies_of, was_shut};
 use crate::policies::is_sweep;
 use crate::tasks::{is_reached, is_waiting, precedes};
 use crate::telling::is_cancel;
-use executor_core::Answer;
+use executor_model::Answer;
 use queue_code::CodeCall;
 use std::alloc::Allocator;
 

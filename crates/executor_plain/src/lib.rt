@@ -35,8 +35,8 @@
 //!
 //! # Tests
 //!
-//! `trace_check/src/tests/row_by_row.rt` compares this program with cores, over the crate `rows`. The tests of `executor_core` by
-//! itself stand in `src/tests/cores`.
+//! `trace_check/src/tests/row_by_row.rt` compares this program with cores, over the crate `rows`. The tests of
+//! `executor_model`, and of `executor_core` by itself, stand in `src/tests/cores`.
 #![tactic(auto)]
 
 mod ends;

@@ -1,9 +1,9 @@
 ghost use Rattle.std.specs.Prelude.{◌≡◌};
 ghost use Rattle.sched_time.specs.Policies.{default_policies, set_policy};
-ghost use Rattle.executor_core.specs.Answers as answers;
-ghost use Rattle.executor_core.specs.Histories as histories;
+ghost use Rattle.executor_model.specs.Answers as answers;
+ghost use Rattle.executor_model.specs.Histories as histories;
 
-use executor_core::Answer;
+use executor_model::Answer;
 use sched_time::{Policies, Timing, Which};
 
 /// The policies before any is set.

@@ -2,15 +2,15 @@ ghost use Rattle.std.specs.Prelude.{◌≡◌, ℕ, ◌+◌, ◌≤◌};
 ghost use Rattle.std.specs.List.{range_with_len};
 ghost use Rattle.queue_code.specs.declared.call.CodeCall.TheVariants as call;
 ghost use Rattle.queue_code.specs.Calls.{IsPlanned, how_many, most_calls_of_code};
-ghost use Rattle.executor_core.specs.View as views;
-ghost use Rattle.executor_core.specs.Answers as answers;
-ghost use Rattle.executor_core.specs.Histories as histories;
+ghost use Rattle.executor_model.specs.View as views;
+ghost use Rattle.executor_model.specs.Answers as answers;
+ghost use Rattle.executor_model.specs.Histories as histories;
 ghost use Rattle.executor_plain.specs.own.Plain.{IsAnsweredBySome};
 
 use crate::history::{Past, was_shut};
 use crate::kept::is_kept;
 use crate::tasks::{count_tasks, is_running, is_waiting};
-use executor_core::Answer;
+use executor_model::Answer;
 use queue_code::CodeCall;
 use std::alloc::Allocator;
 

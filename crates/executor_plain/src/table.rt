@@ -1,10 +1,10 @@
 ghost use Rattle.std.specs.Prelude.{◌≡◌, ℕ};
 ghost use Rattle.queue_code.specs.declared.call.CodeCall.TheVariants as call;
-ghost use Rattle.executor_core.specs.declared.types.Happening.TheVariants as happening;
+ghost use Rattle.executor_model.specs.declared.types.Happening.TheVariants as happening;
 ghost use Rattle.queue_code.specs.Calls.{IsPlanned, terms_of};
-ghost use Rattle.executor_core.specs.Answers as answers;
-ghost use Rattle.executor_core.specs.Histories as histories;
-ghost use Rattle.executor_core.specs.Within.{IsAnsweredByTable};
+ghost use Rattle.executor_model.specs.Answers as answers;
+ghost use Rattle.executor_model.specs.Histories as histories;
+ghost use Rattle.executor_model.specs.Within.{IsAnsweredByTable};
 ghost use Rattle.executor_plain.specs.own.Plain.{IsAnsweredBySome};
 
 use crate::history::{
@@ -13,7 +13,7 @@ use crate::history::{
 use crate::policies::stops_periodic;
 use crate::queue::answer_ask;
 use crate::tasks::{count_tasks, due_at, due_of, effect_on, first_enabled, timing_of};
-use executor_core::{Answer, EventError, Happening, Kind, Outcome, Refusal};
+use executor_model::{Answer, EventError, Happening, Kind, Outcome, Refusal};
 use queue_code::CodeCall;
 use sched_time::{Ending, LONGEST, Timing};
 use std::alloc::Allocator;

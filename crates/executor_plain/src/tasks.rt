@@ -1,16 +1,16 @@
 ghost use Rattle.std.specs.Prelude.{◌≡◌, ◌+◌, ◌≤◌, length, nat_le};
 ghost use Rattle.std.specs.List.{range_with_len};
 ghost use Rattle.queue_code.specs.Calls.{IsPlanned, most_calls_of_code, task_count, terms_of, due_at};
-ghost use Rattle.executor_core.specs.View as views;
-ghost use Rattle.executor_core.specs.Answers as answers;
-ghost use Rattle.executor_core.specs.Histories as histories;
-ghost use Rattle.executor_core.specs.Within.{latest_due};
+ghost use Rattle.executor_model.specs.View as views;
+ghost use Rattle.executor_model.specs.Answers as answers;
+ghost use Rattle.executor_model.specs.Histories as histories;
+ghost use Rattle.executor_model.specs.Within.{latest_due};
 ghost use Rattle.executor_plain.specs.own.Plain.{IsAnsweredBySome, IsOrderlyPart};
 
 use crate::history::{
     Past, finishes, last_finish, now_of, starts, was_accepted, was_cancelled, was_done, was_failed,
 };
-use executor_core::CancelEffect;
+use executor_model::CancelEffect;
 use queue_code::CodeCall;
 use sched_time::Timing;
 use std::alloc::Allocator;

@@ -1,7 +1,7 @@
 ghost use Rattle.std.specs.Prelude.{◌≡◌};
-ghost use Rattle.executor_core.specs.Histories as histories;
+ghost use Rattle.executor_model.specs.Histories as histories;
 
-use executor_core::{Answer, CancelEffect, Outcome};
+use executor_model::{Answer, CancelEffect, Outcome};
 
 /// Whether an answer accepts a task.
 pub(crate) fn is_submit(k: u32, answer: Answer) -> bool

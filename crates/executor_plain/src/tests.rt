@@ -7,7 +7,7 @@ ghost use Rattle.std.specs.Prelude.{◌≡◌, IfOk};
 ghost use Rattle.queue_code.specs.Codes.{calls_of};
 
 use crate::trace_of_happenings;
-use executor_core::{Answer, CancelEffect, Happening, Kind, Line, Message};
+use executor_model::{Answer, CancelEffect, Happening, Kind, Line, Message};
 use queue_code::{Code, CodeCall, Cursor, Instr};
 use sched_time::Timing;
 use std::alloc::{AllocError, Allocator};

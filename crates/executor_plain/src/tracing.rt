@@ -1,14 +1,14 @@
 ghost use Rattle.std.specs.Prelude.{◌≡◌, ◌-◌, [], ◌∷◌, ◌++◌, drop, nat_le, reverse, replicate, OnOk, IfOk};
-ghost use Rattle.executor_core.specs.declared.types.Happening.TheVariants as happening;
+ghost use Rattle.executor_model.specs.declared.types.Happening.TheVariants as happening;
 ghost use Rattle.queue_code.specs.Calls.{IsPlanned, how_many};
-ghost use Rattle.executor_core.specs.Histories as histories;
-ghost use Rattle.executor_core.specs.Flows as flows;
-ghost use Rattle.executor_core.specs.Within.{IsAnsweredByTable};
+ghost use Rattle.executor_model.specs.Histories as histories;
+ghost use Rattle.executor_model.specs.Flows as flows;
+ghost use Rattle.executor_model.specs.Within.{IsAnsweredByTable};
 
 use crate::ends::ends_after;
 use crate::history::{Past, is_accepted, made, now_of};
 use crate::table::answer_after;
-use executor_core::{Event, Happening, Line, Message};
+use executor_model::{Event, Happening, Line, Message};
 use queue_code::CodeCall;
 use std::alloc::{AllocError, Allocator};
 

@@ -1,6 +1,6 @@
 -- Copying: what of the text of some lines stands in a caller's buffer (this project's rule).
 use Rattle.std.specs.Prelude.{◌≡◌, ℕ, ◌+◌, ◌<◌, ◌≤◌, ◌⊎◌, List, length, take}
-use Rattle.executor_core.specs.declared.types.Line.{Line}
+use Rattle.executor_model.specs.declared.types.Line.{Line}
 use Rattle.trace_text.specs.Spelling.{lines_text}
 use Rattle.trace_text.specs.Writing.{line_room}
 use Rattle.line_copy.specs.declared.copied.Copied.{Copied}

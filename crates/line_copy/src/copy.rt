@@ -1,11 +1,11 @@
 //! Lines that are copied one at a time.
 ghost use Rattle.std.specs.Prelude.{◌≡◌, ℕ, ◌+◌, ◌≤◌, ◌↔◌, List, IsTrue, Some, false, length, slice_get};
-ghost use Rattle.executor_core.specs.declared.types.Line.{Line};
+ghost use Rattle.executor_model.specs.declared.types.Line.{Line};
 ghost use Rattle.trace_text.specs.declared.line_text.TheConstants.{LINE_ROOM};
 ghost use Rattle.line_copy.specs.Copying.{HoldsFirst};
 
 use crate::copied::Copied;
-use executor_core::Line;
+use executor_model::Line;
 use std::marker::Model;
 use trace_text::{LINE_ROOM, Stamp, put_line};
 

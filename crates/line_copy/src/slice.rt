@@ -3,7 +3,7 @@ ghost use Rattle.line_copy.specs.Copying.{IsCopied};
 
 use crate::copied::Copied;
 use crate::copy::LineCopy;
-use executor_core::Line;
+use executor_model::Line;
 
 /// Puts the text of lines into a buffer, the first one first, as long as there is room for any line. What stands in the buffer
 /// behind the text is lost.

@@ -2,7 +2,7 @@
 mod usage;
 
 use crate::{Copied, LineCopy, put_lines};
-use executor_core::{Answer, Line, Message};
+use executor_model::{Answer, Line, Message};
 use std::process::Abort;
 
 /// The text of the lines, in which they begin at 0, 8, 23 and 31.

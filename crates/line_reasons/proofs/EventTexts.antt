@@ -5,7 +5,7 @@ use Rattle.std.specs.List.{AllByRecursion}
 use Rattle.std.proofs.lemmas.Bool.{false≢true}
 use Rattle.std.proofs.lemmas.Grind.{flat_map-append}
 use Rattle.std.proofs.lemmas.List.Elements.{All-nil, All-push, recursion_from_All}
-use Rattle.executor_core.specs.declared.Event.{Event}
+use Rattle.executor_model.specs.declared.Event.{Event}
 use Rattle.trace_text.specs.Reading.{IsUnread}
 use Rattle.trace_text.specs.Spelling.{event_line, FitsEvent}
 use Rattle.trace_text.proofs.EventTexts.{event_ended, first_event}

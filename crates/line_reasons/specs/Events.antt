@@ -1,6 +1,6 @@
 -- Texts of events, and the first line of a text that is no event's. All of it is this project's rule.
 use Rattle.std.specs.Prelude.{◌≡◌, ℕ, ◌+◌, ◌<◌, ◌⊎◌, List, [], ◌++◌, All, length, codes, flat_map}
-use Rattle.executor_core.specs.declared.Event.{Event}
+use Rattle.executor_model.specs.declared.Event.{Event}
 use Rattle.trace_text.specs.Reading.{IsUnread}
 use Rattle.trace_text.specs.Spelling.{IsLine, event_line, FitsEvent}
 

@@ -4,7 +4,7 @@ use Rattle.std.specs.Fmt.{decimal}
 use Rattle.std.specs.Int.{IsInRange}
 use Rattle.std.specs.Str.Parse.{IsNumeral, digits_value}
 use Rattle.sched_time.specs.declared.timing.Ending.TheVariants as ending
-use Rattle.executor_core.specs.declared.Event.TheVariants as event
+use Rattle.executor_model.specs.declared.Event.TheVariants as event
 use Rattle.trace_text.specs.Spelling.{FitsEvent, FitsEnding}
 use Rattle.line_reasons.specs.declared.form.EventNumber.{EventNumber}
 use Rattle.line_reasons.specs.declared.form.EventNumber.TheVariants as number

@@ -7,12 +7,12 @@ use Rattle.std.proofs.lemmas.Bool.{false≢true, eqb-true, or_left, or_right, or
 use Rattle.std.proofs.lemmas.List.Elements.{All-nil, All-cons, All-head, All-tail}
 use Rattle.std.proofs.lemmas.Option.{none-some, same_Some}
 use Rattle.sched_time.specs.declared.timing.Ending.{Ending}
-use Rattle.executor_core.specs.declared.types.CancelEffect.{CancelEffect}
-use Rattle.executor_core.specs.declared.types.CancelEffect.TheVariants as f
-use Rattle.executor_core.specs.declared.types.Outcome.{Outcome}
-use Rattle.executor_core.specs.declared.types.Outcome.TheVariants as o
-use Rattle.executor_core.specs.Histories.{is_end}
-use Rattle.executor_core.specs.State.{due_past}
+use Rattle.executor_model.specs.declared.types.CancelEffect.{CancelEffect}
+use Rattle.executor_model.specs.declared.types.CancelEffect.TheVariants as f
+use Rattle.executor_model.specs.declared.types.Outcome.{Outcome}
+use Rattle.executor_model.specs.declared.types.Outcome.TheVariants as o
+use Rattle.executor_model.specs.Histories.{is_end}
+use Rattle.executor_model.specs.State.{due_past}
 use Rattle.task_table.specs.declared.answers.Begun.{Begun}
 use Rattle.task_table.specs.declared.answers.Ended.{Ended}
 use Rattle.task_table.specs.declared.seat.Seat.{Seat}

@@ -3,8 +3,8 @@ use Rattle.std.proofs.Common.{◌≡◌, ℕ, ◌≤◌, false, List, Option, re
 use Rattle.sched_time.specs.Times.{longest}
 use Rattle.queue_code.specs.declared.call.CodeCall.{CodeCall}
 use Rattle.queue_code.specs.Calls.{IsOrderlyCall, count_after}
-use Rattle.executor_core.specs.Answers.{Reply}
-use Rattle.executor_core.specs.Histories.{is_submit}
+use Rattle.executor_model.specs.Answers.{Reply}
+use Rattle.executor_model.specs.Histories.{is_submit}
 use Rattle.task_table.specs.declared.seat.Seat.{Seat}
 use Rattle.task_table.specs.declared.seat.TaskRef.{TaskRef}
 use Rattle.task_table.specs.Tables.{TableView, workers_of, CallSteps}

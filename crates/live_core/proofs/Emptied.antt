@@ -6,7 +6,7 @@ use Rattle.std.proofs.lemmas.Bool.{false≢true, eqb-true, eq-eqb, false_from_ne
 use Rattle.std.proofs.lemmas.List.Folds.{list_any-append}
 use Rattle.std.proofs.lemmas.Option.{none-some}
 use Rattle.queue_code.specs.Calls.{how_many}
-use Rattle.executor_core.proofs.Tables.{at_set}
+use Rattle.executor_model.proofs.Tables.{at_set}
 use Rattle.live_core.specs.own.Slots.{number_in, is_among, AreOnce, AreEmpty}
 
 -- ---- lists of slots

@@ -1,9 +1,9 @@
 -- How far the task of a number is: its slot tells, where it has one, and nothing comes of it where it has none.
 use Rattle.std.proofs.Common.{◌≡◌, ℕ, Some, None, Option, sym, ap, subst, ◌∙◌}
 use Rattle.std.proofs.lemmas.Bool.{false_from_ne_true}
-use Rattle.executor_core.specs.declared.task.Task.{Task}
-use Rattle.executor_core.specs.Histories.{happenings}
-use Rattle.executor_core.specs.State.{after}
+use Rattle.executor_model.specs.declared.task.Task.{Task}
+use Rattle.executor_model.specs.Histories.{happenings}
+use Rattle.executor_model.specs.State.{after}
 use Rattle.task_table.specs.declared.seat.Seat.{Seat}
 use Rattle.task_table.specs.Seats.{slot_of, task_in, is_alive, IsNew}
 use Rattle.task_table.specs.Tables.{workers_of}

@@ -3,16 +3,16 @@ use Rattle.std.proofs.Common.{◌≡◌, ℕ, ◌<◌, ◌≤◌, cond, List, []
 use Rattle.std.specs.Prelude.{nat_lt}
 use Rattle.queue_code.specs.declared.call.CodeCall.TheVariants as c
 use Rattle.queue_code.specs.Calls.{Planned}
-use Rattle.executor_core.specs.declared.types.Happening.TheVariants as h
-use Rattle.executor_core.specs.declared.types.EventError.TheVariants as x
-use Rattle.executor_core.specs.declared.types.CancelEffect.TheVariants as f
-use Rattle.executor_core.specs.declared.types.Answer.TheVariants as a
-use Rattle.executor_core.specs.declared.task.Stage.{Stage}
-use Rattle.executor_core.specs.declared.task.Stage.TheVariants as ph
-use Rattle.executor_core.specs.View.{View}
-use Rattle.executor_core.specs.Answers.{bare}
-use Rattle.executor_core.specs.Histories.{HistoryEntry, happenings, was_accepted}
-use Rattle.executor_core.specs.State.{after, was_submitted}
+use Rattle.executor_model.specs.declared.types.Happening.TheVariants as h
+use Rattle.executor_model.specs.declared.types.EventError.TheVariants as x
+use Rattle.executor_model.specs.declared.types.CancelEffect.TheVariants as f
+use Rattle.executor_model.specs.declared.types.Answer.TheVariants as a
+use Rattle.executor_model.specs.declared.task.Stage.{Stage}
+use Rattle.executor_model.specs.declared.task.Stage.TheVariants as ph
+use Rattle.executor_model.specs.View.{View}
+use Rattle.executor_model.specs.Answers.{bare}
+use Rattle.executor_model.specs.Histories.{HistoryEntry, happenings, was_accepted}
+use Rattle.executor_model.specs.State.{after, was_submitted}
 use Rattle.task_table.specs.Seats.{IsNew}
 use Rattle.task_table.specs.Tables as tables
 use Rattle.task_table.specs.Tables.{TableView, workers_of, Takes}

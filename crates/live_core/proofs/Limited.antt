@@ -1,10 +1,10 @@
 -- The first due task has had so many runs that no number is left: what a start would answer.
 use Rattle.std.proofs.Common.{ℕ, Some, sym, ap, ◌∙◌}
-use Rattle.executor_core.specs.declared.types.Happening.TheVariants as h
-use Rattle.executor_core.specs.declared.types.Answer.TheVariants as a
-use Rattle.executor_core.specs.Answers.{bare, reply}
-use Rattle.executor_core.specs.Histories.{happenings}
-use Rattle.executor_core.specs.State.{after}
+use Rattle.executor_model.specs.declared.types.Happening.TheVariants as h
+use Rattle.executor_model.specs.declared.types.Answer.TheVariants as a
+use Rattle.executor_model.specs.Answers.{bare, reply}
+use Rattle.executor_model.specs.Histories.{happenings}
+use Rattle.executor_model.specs.State.{after}
 use Rattle.task_table.specs.Tables.{workers_of}
 use Rattle.task_table.specs.Runs.{IsFree, IsFull}
 use Rattle.task_table.proofs.Standing.{view_there}

@@ -8,14 +8,14 @@ use Rattle.sched_time.specs.Times.{longest}
 use Rattle.queue_code.specs.declared.call.CodeCall.{CodeCall}
 use Rattle.queue_code.specs.declared.call.CodeCall.TheVariants as c
 use Rattle.queue_code.specs.Calls.{Planned, IsOrderlyFrom, IsOrderlyCall, count_after, submits_task, task_count}
-use Rattle.executor_core.specs.declared.types.Happening.{Happening}
-use Rattle.executor_core.specs.declared.types.Happening.TheVariants as h
-use Rattle.executor_core.specs.declared.types.Answer.{Answer}
-use Rattle.executor_core.specs.Answers.{Reply, moment_after, is_accepted}
-use Rattle.executor_core.specs.Histories.{HistoryEntry, entry_of, happenings, made, now_of, answer, is_submit, IsHistoryOf}
-use Rattle.executor_core.specs.State.{after}
-use Rattle.executor_core.specs.Flows.{lines_at}
-use Rattle.executor_core.proofs.Agree.{after_agrees}
+use Rattle.executor_model.specs.declared.types.Happening.{Happening}
+use Rattle.executor_model.specs.declared.types.Happening.TheVariants as h
+use Rattle.executor_model.specs.declared.types.Answer.{Answer}
+use Rattle.executor_model.specs.Answers.{Reply, moment_after, is_accepted}
+use Rattle.executor_model.specs.Histories.{HistoryEntry, entry_of, happenings, made, now_of, answer, is_submit, IsHistoryOf}
+use Rattle.executor_model.specs.State.{after}
+use Rattle.executor_model.specs.Flows.{lines_at}
+use Rattle.executor_model.proofs.Agree.{after_agrees}
 use Rattle.executor_laws.specs.Additions.{LooksBelow, AllLookBelow, StandsFor}
 use Rattle.executor_laws.proofs.AddedCalls.{counted, task_one}
 use Rattle.executor_laws.proofs.Adding.{calls_may_be_added}

@@ -7,14 +7,14 @@ use Rattle.std.proofs.lemmas.Bool.Decides.{nat_tests}
 use Rattle.std.proofs.lemmas.List.Elements.{All-nil, All-cons}
 use Rattle.std.proofs.lemmas.Option.{slice_get_within}
 use Rattle.queue_code.specs.Calls.{Planned}
-use Rattle.executor_core.specs.declared.types.Happening.{Happening}
-use Rattle.executor_core.specs.declared.types.Happening.TheVariants as h
-use Rattle.executor_core.specs.declared.types.EventError.TheVariants as x
-use Rattle.executor_core.specs.declared.types.Answer.TheVariants as a
-use Rattle.executor_core.specs.View.{View}
-use Rattle.executor_core.specs.Answers.{Reply, reply, effect_on, start_answer, finish_answer}
-use Rattle.executor_core.specs.Histories.{HistoryEntry, entry_of, happenings, made, now_of, is_call, is_submit, was_accepted, view_of_history, MayFrom, IsHistoryOf}
-use Rattle.executor_core.specs.Flows.{lines_of, lines_at}
+use Rattle.executor_model.specs.declared.types.Happening.{Happening}
+use Rattle.executor_model.specs.declared.types.Happening.TheVariants as h
+use Rattle.executor_model.specs.declared.types.EventError.TheVariants as x
+use Rattle.executor_model.specs.declared.types.Answer.TheVariants as a
+use Rattle.executor_model.specs.View.{View}
+use Rattle.executor_model.specs.Answers.{Reply, reply, effect_on, start_answer, finish_answer}
+use Rattle.executor_model.specs.Histories.{HistoryEntry, entry_of, happenings, made, now_of, is_call, is_submit, was_accepted, view_of_history, MayFrom, IsHistoryOf}
+use Rattle.executor_model.specs.Flows.{lines_of, lines_at}
 use Rattle.executor_laws.specs.Additions.{LooksBelow}
 use Rattle.task_table.specs.Tables as tables
 use Rattle.task_table.specs.Tables.{TableView, workers_of, Takes, EventSteps}

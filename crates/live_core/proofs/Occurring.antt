@@ -4,12 +4,12 @@ use Rattle.std.specs.Prelude.{Result, Ok, Err, IfOk, IfErr, OnErr}
 use Rattle.std.proofs.lemmas.Bool.{and_parts, leb-true}
 use Rattle.sched_time.specs.Times.{longest}
 use Rattle.sched_time.specs.declared.timing.Ending.{Ending}
-use Rattle.executor_core.specs.declared.types.EventError.{EventError}
-use Rattle.executor_core.specs.declared.types.Happening.{Happening}
-use Rattle.executor_core.specs.declared.types.Happening.TheVariants as h
-use Rattle.executor_core.specs.declared.types.Answer.TheVariants as a
-use Rattle.executor_core.specs.Answers.{Reply, bare, is_accepted}
-use Rattle.executor_core.specs.Histories.{is_call}
+use Rattle.executor_model.specs.declared.types.EventError.{EventError}
+use Rattle.executor_model.specs.declared.types.Happening.{Happening}
+use Rattle.executor_model.specs.declared.types.Happening.TheVariants as h
+use Rattle.executor_model.specs.declared.types.Answer.TheVariants as a
+use Rattle.executor_model.specs.Answers.{Reply, bare, is_accepted}
+use Rattle.executor_model.specs.Histories.{is_call}
 use Rattle.executor_laws.specs.Additions.{LooksBelow}
 use Rattle.task_table.specs.declared.answers.Ended.{Ended}
 use Rattle.task_table.specs.declared.seat.TaskRef.{TaskRef}

@@ -4,15 +4,15 @@ use Rattle.std.specs.Prelude.{slice_set, not}
 use Rattle.std.specs.Option.{option_map, option_map_or}
 use Rattle.std.proofs.lemmas.Bool.{false≢true, eqb-true, eq-eqb}
 use Rattle.std.proofs.lemmas.Option.{none-some, same_Some}
-use Rattle.executor_core.specs.declared.types.CancelEffect.{CancelEffect}
-use Rattle.executor_core.specs.declared.types.CancelEffect.TheVariants as f
+use Rattle.executor_model.specs.declared.types.CancelEffect.{CancelEffect}
+use Rattle.executor_model.specs.declared.types.CancelEffect.TheVariants as f
 use Rattle.task_table.specs.declared.seat.Seat.{Seat}
 use Rattle.task_table.specs.declared.seat.TaskRef.{TaskRef}
 use Rattle.task_table.specs.Seats.{task_in, slot_of, is_alive, IsNew}
 use Rattle.task_table.specs.Tables.{TableView, workers_of}
 use Rattle.task_table.specs.Ends.{effect_of}
 use Rattle.task_table.specs.Changes.{at_moment, cancelled, cancel_by, cancel_in, emptied}
-use Rattle.task_table.proofs.Slots.{by_eqb}
+use Rattle.task_table.proofs.Written.{by_eqb}
 use Rattle.live_core.specs.Cancels.{IsHeldAlive}
 use Rattle.live_core.specs.own.Slots.{held_numbers, is_held, HasEntry, HasNone, IsIndex}
 use Rattle.live_core.specs.own.Places.{IsSlotOf}

@@ -4,10 +4,10 @@ use Rattle.std.proofs.Math.ListN.{set}
 use Rattle.std.proofs.lemmas.Bool.{false≢true}
 use Rattle.std.proofs.lemmas.Option.{none-some, same_Some}
 use Rattle.queue_code.specs.Calls.{Planned, how_many}
-use Rattle.executor_core.specs.declared.types.Happening.{Happening}
-use Rattle.executor_core.specs.declared.types.Happening.TheVariants as h
-use Rattle.executor_core.specs.Histories.{HistoryEntry}
-use Rattle.executor_core.proofs.Tables.{at_set}
+use Rattle.executor_model.specs.declared.types.Happening.{Happening}
+use Rattle.executor_model.specs.declared.types.Happening.TheVariants as h
+use Rattle.executor_model.specs.Histories.{HistoryEntry}
+use Rattle.executor_model.proofs.Tables.{at_set}
 use Rattle.task_table.specs.declared.seat.Seat.{Seat}
 use Rattle.task_table.specs.declared.seat.TaskRef.{TaskRef}
 use Rattle.task_table.specs.Seats.{task_in, slot_of, waits, is_alive, is_running_in}
@@ -15,7 +15,7 @@ use Rattle.task_table.specs.Tables.{TableView, StandsBefore}
 use Rattle.task_table.specs.Firsts.{IsFirstDue, holds_kept, kept_in}
 use Rattle.task_table.specs.Runs.{IsFree, IsFull, Drops}
 use Rattle.task_table.specs.Changes.{put, unkept, emptied}
-use Rattle.task_table.proofs.Slots.{by_eqb, set_writes, slot_within}
+use Rattle.task_table.proofs.Written.{by_eqb, set_writes, slot_within}
 use Rattle.live_core.specs.own.Slots.{held_numbers}
 use Rattle.live_core.specs.own.Formed.{AreNoted}
 use Rattle.live_core.specs.own.Shed.{Sheds}

@@ -7,12 +7,12 @@ use Rattle.sched_time.specs.declared.timing.Timing.{Timing}
 use Rattle.queue_code.specs.declared.call.CodeCall.{CodeCall}
 use Rattle.queue_code.specs.declared.call.CodeCall.TheVariants as c
 use Rattle.queue_code.specs.Calls.{IsOrderlyCall, IsTimed, count_after}
-use Rattle.executor_core.specs.declared.types.Happening.{Happening}
-use Rattle.executor_core.specs.declared.types.Happening.TheVariants as h
-use Rattle.executor_core.specs.declared.types.Refusal.TheVariants as refusal
-use Rattle.executor_core.specs.declared.types.Answer.TheVariants as a
-use Rattle.executor_core.specs.Answers.{Reply, bare, kind_of}
-use Rattle.executor_core.specs.Histories.{is_submit, is_call}
+use Rattle.executor_model.specs.declared.types.Happening.{Happening}
+use Rattle.executor_model.specs.declared.types.Happening.TheVariants as h
+use Rattle.executor_model.specs.declared.types.Refusal.TheVariants as refusal
+use Rattle.executor_model.specs.declared.types.Answer.TheVariants as a
+use Rattle.executor_model.specs.Answers.{Reply, bare, kind_of}
+use Rattle.executor_model.specs.Histories.{is_submit, is_call}
 use Rattle.executor_laws.specs.Additions.{LooksBelow}
 use Rattle.task_table.specs.declared.seat.TaskRef.{TaskRef}
 use Rattle.task_table.specs.Tables.{TableView, workers_of, CallSteps, EventSteps}

@@ -6,10 +6,10 @@ use Rattle.std.proofs.lemmas.Bool.{false≢true, eq-eqb, or_left, or_right}
 use Rattle.std.proofs.lemmas.List.Elements.{All-head, All-tail, All-nil, All-cons, All-more, All-weaker}
 use Rattle.std.proofs.lemmas.Option.{same_Some, slice_get_within}
 use Rattle.queue_code.specs.Calls.{Planned, IsOrderlyFrom}
-use Rattle.executor_core.specs.declared.types.Happening.TheVariants as h
-use Rattle.executor_core.specs.Answers.{Reply}
-use Rattle.executor_core.specs.Histories.{HistoryEntry, entry_of, happenings, made, answer, is_end, IsHistoryOf}
-use Rattle.executor_core.proofs.Tables.{at_set}
+use Rattle.executor_model.specs.declared.types.Happening.TheVariants as h
+use Rattle.executor_model.specs.Answers.{Reply}
+use Rattle.executor_model.specs.Histories.{HistoryEntry, entry_of, happenings, made, answer, is_end, IsHistoryOf}
+use Rattle.executor_model.proofs.Tables.{at_set}
 use Rattle.task_table.specs.declared.seat.Seat.{Seat}
 use Rattle.task_table.specs.declared.seat.TaskRef.{TaskRef}
 use Rattle.task_table.specs.Seats.{task_in, slot_of, is_alive}
@@ -19,7 +19,7 @@ use Rattle.task_table.specs.Ends.{IsAscending}
 use Rattle.task_table.specs.Endings.{IsOverAt, SweepEnds, numbers_of}
 use Rattle.task_table.specs.Runs.{Drops}
 use Rattle.task_table.specs.Changes.{emptied, unkept, swept}
-use Rattle.task_table.proofs.Slots.{by_eqb, apart_eqb, slot_within, Writes, set_writes}
+use Rattle.task_table.proofs.Written.{by_eqb, apart_eqb, slot_within, Writes, set_writes}
 use Rattle.task_table.proofs.Starts.{stands_before}
 use Rattle.live_core.specs.own.Places.{IsEmptyAt}
 use Rattle.live_core.specs.own.Slots.{held_numbers}

@@ -4,14 +4,14 @@ use Rattle.std.specs.Prelude.{length, slice_set}
 use Rattle.std.specs.Option.{option_map_or}
 use Rattle.std.proofs.lemmas.Bool.{false≢true, eqb-true, eq-eqb, false_from_ne_true, and_parts, or_left}
 use Rattle.queue_code.specs.Calls.{Planned}
-use Rattle.executor_core.specs.declared.task.Task.{Task}
-use Rattle.executor_core.specs.Histories.{HistoryEntry, happenings}
-use Rattle.executor_core.specs.State.{after}
+use Rattle.executor_model.specs.declared.task.Task.{Task}
+use Rattle.executor_model.specs.Histories.{HistoryEntry, happenings}
+use Rattle.executor_model.specs.State.{after}
 use Rattle.task_table.specs.declared.seat.Seat.{Seat}
 use Rattle.task_table.specs.declared.seat.TaskRef.{TaskRef}
 use Rattle.task_table.specs.Seats.{task_in, slot_of, waits, is_running_in, IsNew}
 use Rattle.task_table.specs.Tables.{TableView, workers_of}
-use Rattle.task_table.proofs.Slots.{set_writes}
+use Rattle.task_table.proofs.Written.{set_writes}
 use Rattle.live_core.specs.Lives.{LiveView, Stands}
 use Rattle.live_core.specs.Said.{TellsWaiting, is_waiting_there}
 use Rattle.live_core.specs.own.Places.{IsSlotOf}

@@ -5,14 +5,14 @@ use Rattle.std.proofs.lemmas.Bool.{eq-eqb}
 use Rattle.std.proofs.lemmas.List.{length-set}
 use Rattle.sched_time.specs.declared.timing.Ending.{Ending}
 use Rattle.queue_code.specs.Calls.{Planned}
-use Rattle.executor_core.specs.declared.types.Happening.TheVariants as h
-use Rattle.executor_core.specs.declared.types.Outcome.{Outcome}
-use Rattle.executor_core.specs.declared.types.Outcome.TheVariants as o
-use Rattle.executor_core.specs.declared.types.EventError.{EventError}
-use Rattle.executor_core.specs.Answers.{Reply}
-use Rattle.executor_core.specs.Histories.{HistoryEntry, entry_of, answer, IsHistoryOf}
-use Rattle.executor_core.specs.State.{due_past}
-use Rattle.executor_core.proofs.Tables.{at_set}
+use Rattle.executor_model.specs.declared.types.Happening.TheVariants as h
+use Rattle.executor_model.specs.declared.types.Outcome.{Outcome}
+use Rattle.executor_model.specs.declared.types.Outcome.TheVariants as o
+use Rattle.executor_model.specs.declared.types.EventError.{EventError}
+use Rattle.executor_model.specs.Answers.{Reply}
+use Rattle.executor_model.specs.Histories.{HistoryEntry, entry_of, answer, IsHistoryOf}
+use Rattle.executor_model.specs.State.{due_past}
+use Rattle.executor_model.proofs.Tables.{at_set}
 use Rattle.task_table.specs.declared.answers.Begun.{Begun}
 use Rattle.task_table.specs.declared.answers.Ended.{Ended}
 use Rattle.task_table.specs.declared.seat.Seat.{Seat}
@@ -21,7 +21,7 @@ use Rattle.task_table.specs.Seats.{slot_of}
 use Rattle.task_table.specs.Tables.{TableView, workers_of, Stands, EventSteps, EventStepsBefore}
 use Rattle.task_table.specs.Runs.{IsFree, Starts, Ends}
 use Rattle.task_table.specs.Changes.{begun, ended}
-use Rattle.task_table.proofs.Slots.{set_writes, slot_within}
+use Rattle.task_table.proofs.Written.{set_writes, slot_within}
 use Rattle.task_table.proofs.Starts.{stands_before}
 use Rattle.live_core.specs.Events.{start_reply, finish_reply, IsRunBy}
 use Rattle.live_core.specs.own.Slots.{held_numbers}

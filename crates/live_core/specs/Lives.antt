@@ -2,13 +2,13 @@
 -- All of it is this project's rule.
 use Rattle.std.specs.Prelude.{◌≡◌, ℕ, ◌+◌, ◌^◌, ◌<◌, ◌≤◌, max, nat_lt, List, [], ◌∷◌, ◌++◌, length, Some}
 use Rattle.queue_code.specs.Calls.{Planned, task_count}
-use Rattle.executor_core.specs.declared.types.Happening.{Happening}
-use Rattle.executor_core.specs.declared.types.Happening.TheVariants as h
-use Rattle.executor_core.specs.declared.types.Answer.{Answer}
-use Rattle.executor_core.specs.declared.types.Answer.TheVariants as a
-use Rattle.executor_core.specs.Answers.{Reply}
-use Rattle.executor_core.specs.Histories.{HistoryEntry, entry_of, happenings, made, was_accepted}
-use Rattle.executor_core.specs.Flows.{lines_of, lines_at}
+use Rattle.executor_model.specs.declared.types.Happening.{Happening}
+use Rattle.executor_model.specs.declared.types.Happening.TheVariants as h
+use Rattle.executor_model.specs.declared.types.Answer.{Answer}
+use Rattle.executor_model.specs.declared.types.Answer.TheVariants as a
+use Rattle.executor_model.specs.Answers.{Reply}
+use Rattle.executor_model.specs.Histories.{HistoryEntry, entry_of, happenings, made, was_accepted}
+use Rattle.executor_model.specs.Flows.{lines_of, lines_at}
 use Rattle.executor_laws.specs.Additions.{AllLookBelow}
 use Rattle.task_table.specs.declared.seat.Seat.{Seat}
 use Rattle.task_table.specs.declared.seat.TaskRef.{TaskRef}

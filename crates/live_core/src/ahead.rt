@@ -3,7 +3,7 @@ ghost use Rattle.std.specs.Prelude.{◌≡◌, IfSome, IfNone};
 
 use crate::executor::ScheduledExecutor;
 use crate::finding::slot_of_task;
-use executor_core::EventError;
+use executor_model::EventError;
 use std::alloc::Allocator;
 use task_table::{Seat, TaskRef};
 

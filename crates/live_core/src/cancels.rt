@@ -2,17 +2,17 @@
 ghost use Rattle.std.specs.Prelude.{◌≡◌, ℕ, ◌<◌, ◌≤◌, [], Some, IfOk, IfErr, OnOk, OnErr};
 ghost use Rattle.sched_time.specs.Times.{longest};
 ghost use Rattle.queue_code.specs.declared.call.CodeCall.TheVariants as call;
-ghost use Rattle.executor_core.specs.Answers.{bare};
-ghost use Rattle.executor_core.specs.declared.types.Answer.TheVariants as answer;
-ghost use Rattle.executor_core.specs.declared.types.EventError.TheVariants as event_error;
-ghost use Rattle.executor_core.specs.declared.types.Happening.TheVariants as happening;
+ghost use Rattle.executor_model.specs.Answers.{bare};
+ghost use Rattle.executor_model.specs.declared.types.Answer.TheVariants as answer;
+ghost use Rattle.executor_model.specs.declared.types.EventError.TheVariants as event_error;
+ghost use Rattle.executor_model.specs.declared.types.Happening.TheVariants as happening;
 ghost use Rattle.live_core.specs.own.Places as places;
 
 use crate::error::CallError;
 use crate::executor::ScheduledExecutor;
 use crate::finding::{slot_of_number, slot_of_task};
 use crate::spent::release_spent;
-use executor_core::{CancelEffect, EventError};
+use executor_model::{CancelEffect, EventError};
 use sched_time::LONGEST;
 use std::alloc::Allocator;
 use task_table::TaskRef;

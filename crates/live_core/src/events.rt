@@ -1,12 +1,12 @@
 //! Events: the clock, and the starts and finishes of the workers.
 ghost use Rattle.std.specs.Prelude.{◌≡◌, ◌+◌, ◌<◌, ◌↔◌, true, [], IsOk, IfOk, OnOk, IfErr, IfSome, IfNone};
-ghost use Rattle.executor_core.specs.Answers.{bare, is_accepted};
-ghost use Rattle.executor_core.specs.declared.types.Answer.TheVariants as answer;
-ghost use Rattle.executor_core.specs.declared.types.Happening.TheVariants as happening;
+ghost use Rattle.executor_model.specs.Answers.{bare, is_accepted};
+ghost use Rattle.executor_model.specs.declared.types.Answer.TheVariants as answer;
+ghost use Rattle.executor_model.specs.declared.types.Happening.TheVariants as happening;
 
 use crate::executor::ScheduledExecutor;
 use crate::running::{begin_run, end_run};
-use executor_core::EventError;
+use executor_model::EventError;
 use sched_time::Ending;
 use std::alloc::Allocator;
 use task_table::{Begun, Ended, StartError};

@@ -1,12 +1,12 @@
 //! The executor, and what it tells.
 ghost use Rattle.std.specs.Prelude.{◌≡◌, ℕ, ◌≤◌, List, [], true, false, IfOk, IfErr, OnOk};
 ghost use Rattle.sched_time.specs.Times.{longest};
-ghost use Rattle.executor_core.specs.Counts.{IsWorkerCount};
+ghost use Rattle.executor_model.specs.Counts.{IsWorkerCount};
 
 use crate::error::MakeError;
 use crate::finding::slot_of_task;
 use crate::notes::Notes;
-use executor_core::Stage;
+use executor_model::Stage;
 use std::alloc::Allocator;
 use std::marker::Model;
 use task_table::{TaskRef, TaskTable};

@@ -69,7 +69,7 @@
 //! # Errors
 //!
 //! A call that is refused ([`CallError`]) is not made: nothing has changed. [`CallError::Memory`] comes also where 2^30 slots are
-//! all taken. An event that is wrong is answered by an [`EventError`](executor_core::EventError): it has happened, has a line of
+//! all taken. An event that is wrong is answered by an [`EventError`](executor_model::EventError): it has happened, has a line of
 //! its own, and changes no task. But where [`start`](ScheduledExecutor::start) answers [`StartError::Full`], after 2^64 - 1 runs
 //! of one task, nothing has happened. A line can not spell a number of 2^32 or more ([`LinesError`]); nothing else minds it.
 //!

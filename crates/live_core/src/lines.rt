@@ -1,12 +1,12 @@
 //! The lines of what happened last.
 ghost use Rattle.std.specs.Prelude.{◌≡◌, ◌+◌, ◌≤◌, ◌++◌, true, map, length, vec_capacity, OnOk, OnErr, IfErr};
-ghost use Rattle.executor_core.specs.Flows.{end_line, lines_at};
+ghost use Rattle.executor_model.specs.Flows.{end_line, lines_at};
 ghost use Rattle.task_table.specs.Endings.{numbers_of};
 ghost use Rattle.live_core.specs.Lined as lined;
 
 use crate::error::LinesError;
 use crate::executor::ScheduledExecutor;
-use executor_core::{Answer, Line, Message};
+use executor_model::{Answer, Line, Message};
 use std::alloc::Allocator;
 use task_table::TaskRef;
 

@@ -3,8 +3,8 @@ ghost use Rattle.std.specs.Prelude.{◌≡◌, ◌<◌, ◌≤◌, ◌+◌, [], 
 ghost use Rattle.sched_time.specs.Times.{longest};
 ghost use Rattle.queue_code.specs.Calls.{IsTimed};
 ghost use Rattle.queue_code.specs.declared.call.CodeCall.TheVariants as call;
-ghost use Rattle.executor_core.specs.Answers.{bare, kind_of};
-ghost use Rattle.executor_core.specs.declared.types.Answer.TheVariants as answer;
+ghost use Rattle.executor_model.specs.Answers.{bare, kind_of};
+ghost use Rattle.executor_model.specs.declared.types.Answer.TheVariants as answer;
 ghost use Rattle.task_table.specs.Tables.{workers_of, CallSteps};
 ghost use Rattle.live_core.specs.Said.{tasks_in, is_waiting_there};
 ghost use Rattle.live_core.specs.own.Formed.{AreNoted, AreAlive};

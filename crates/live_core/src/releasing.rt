@@ -1,8 +1,8 @@
 //! Slots that are emptied.
 ghost use Rattle.std.specs.Prelude.{◌≡◌, ℕ, List, Some, false};
 ghost use Rattle.queue_code.specs.Calls.{Planned};
-ghost use Rattle.executor_core.specs.Histories.{HistoryEntry};
-ghost use Rattle.executor_core.specs.declared.types.Happening as happenings;
+ghost use Rattle.executor_model.specs.Histories.{HistoryEntry};
+ghost use Rattle.executor_model.specs.declared.types.Happening as happenings;
 ghost use Rattle.task_table.specs.declared.seat.Seat as seats;
 ghost use Rattle.task_table.specs.Seats.{task_in, slot_of, is_alive};
 ghost use Rattle.task_table.specs.Tables.{Stands, StandsBefore};

@@ -1,7 +1,7 @@
 //! Room for tasks, made ahead.
 ghost use Rattle.std.specs.Prelude.{◌≡◌, ◌≤◌, List, length, IsOk, IfErr, OnOk, OnErr};
 ghost use Rattle.queue_code.specs.Calls.{Planned};
-ghost use Rattle.executor_core.specs.Histories.{HistoryEntry};
+ghost use Rattle.executor_model.specs.Histories.{HistoryEntry};
 ghost use Rattle.live_core.specs.declared.error.CallError.TheVariants as call_error;
 
 use crate::error::CallError;

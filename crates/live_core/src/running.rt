@@ -1,8 +1,8 @@
 //! The runs of the workers: what their starts and finishes do to the parts of an executor.
 ghost use Rattle.std.specs.Prelude.{◌≡◌, ℕ, ◌<◌, List, Some, None, slice_index_or, IfSome, IfOk, IfErr, OnErr};
 ghost use Rattle.queue_code.specs.Calls.{Planned};
-ghost use Rattle.executor_core.specs.Histories.{HistoryEntry};
-ghost use Rattle.executor_core.specs.declared.types.Happening.TheVariants as happening;
+ghost use Rattle.executor_model.specs.Histories.{HistoryEntry};
+ghost use Rattle.executor_model.specs.declared.types.Happening.TheVariants as happening;
 ghost use Rattle.task_table.specs.declared.seat.Seat as seats;
 ghost use Rattle.task_table.specs.Seats.{slot_of};
 ghost use Rattle.task_table.specs.Tables.{workers_of, Stands, EventSteps};
@@ -15,7 +15,7 @@ ghost use Rattle.live_core.specs.own.Slots.{LeavesSlots};
 
 use crate::notes::Notes;
 use crate::releasing::release;
-use executor_core::{EventError, Outcome};
+use executor_model::{EventError, Outcome};
 use sched_time::Ending;
 use std::alloc::Allocator;
 use task_table::{Begun, Ended, TaskTable};

@@ -8,7 +8,7 @@ ghost use Rattle.live_core.specs.own.Slots.{LeavesSlots};
 
 use crate::notes::Notes;
 use crate::releasing::release;
-use executor_core::Stage;
+use executor_model::Stage;
 use std::alloc::Allocator;
 use task_table::{Seat, TaskTable};
 

@@ -1,7 +1,7 @@
 -- Ending: how a live run begins and ends, and that it does.
 use Rattle.std.proofs.Common.{◌≡◌, ℕ, zero, suc, ◌+◌, ◌-◌, ◌*◌, ◌<◌, ◌≤◌, List, [], ◌∷◌, ◌++◌, take, length, Option, Result, Ok, Err, MatchResult, inl, inr, ◌⊎◌, refl, ap, ◌∙◌, sym, subst, arith, append_assoc, append-nil, length-append}
 use Rattle.std.specs.Io.KnownBytes.{Consumes, Appends, Keeps, IsAtEnd}
-use Rattle.executor_core.specs.Counts.{IsWorkerCount}
+use Rattle.executor_model.specs.Counts.{IsWorkerCount}
 use Rattle.trace_text.specs.Spelling.{IsLine, event_line, FitsEvent}
 use Rattle.trace_text.specs.Reading.{IsPart, IsUnread, most_event_bytes}
 use Rattle.trace_text.proofs.EventTexts.{event_ended}

@@ -1,8 +1,8 @@
 -- Going: what a read, a line that is taken, and a write make of a live run.
 use Rattle.std.proofs.Common.{◌≡◌, ℕ, ◌+◌, ◌-◌, ◌≤◌, inl, inr, List, [], ◌∷◌, ◌++◌, take, drop, length, Option, Some, None, ap, ◌∙◌, sym, subst, arith, append_assoc, append-nil, length-append}
 use Rattle.std.specs.Io.KnownBytes.{Consumes, Appends, prepend_known}
-use Rattle.executor_core.specs.declared.Line.{Line}
-use Rattle.executor_core.specs.Flows.{lines_of}
+use Rattle.executor_model.specs.declared.Line.{Line}
+use Rattle.executor_model.specs.Flows.{lines_of}
 use Rattle.trace_text.specs.Spelling.{lines_text}
 use Rattle.call_journal.specs.Journals.{JournalView}
 use Rattle.live_core.specs.Lives.{LiveView}

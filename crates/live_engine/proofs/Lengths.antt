@@ -5,13 +5,13 @@ use Rattle.std.specs.Option.{option_map_or}
 use Rattle.std.proofs.lemmas.Bool.{false≢true}
 use Rattle.std.proofs.lemmas.List.{length-map}
 use Rattle.queue_code.specs.Calls.{Planned, submits_task}
-use Rattle.executor_core.specs.declared.Answer.{Answer}
-use Rattle.executor_core.specs.declared.Answer.TheVariants as a
-use Rattle.executor_core.specs.declared.Happening.TheVariants as h
-use Rattle.executor_core.specs.Answers.{Reply, bare, called}
-use Rattle.executor_core.specs.Histories.{HistoryEntry, answer, entry_of, happenings, made, now_of, view_of_history}
-use Rattle.executor_core.specs.Flows.{end_line, lines_at, lines_of, reply_in}
-use Rattle.executor_core.specs.View.{View}
+use Rattle.executor_model.specs.declared.Answer.{Answer}
+use Rattle.executor_model.specs.declared.Answer.TheVariants as a
+use Rattle.executor_model.specs.declared.Happening.TheVariants as h
+use Rattle.executor_model.specs.Answers.{Reply, bare, called}
+use Rattle.executor_model.specs.Histories.{HistoryEntry, answer, entry_of, happenings, made, now_of, view_of_history}
+use Rattle.executor_model.specs.Flows.{end_line, lines_at, lines_of, reply_in}
+use Rattle.executor_model.specs.View.{View}
 use Rattle.call_text.specs.declared.call.CallLine.{CallLine}
 use Rattle.call_text.specs.declared.call.CallLine.TheVariants as call
 use Rattle.task_table.specs.declared.seat.TaskRef.{TaskRef}

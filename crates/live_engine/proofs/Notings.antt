@@ -6,7 +6,7 @@ use Rattle.call_journal.specs.Journals.{JournalView, keeps_more, noted}
 use Rattle.live_engine.specs.declared.live_line.LiveLine.{LiveLine}
 use Rattle.live_engine.specs.declared.live_line.LiveLine.TheVariants as l
 use Rattle.live_core.specs.Lives.{LiveView}
-use Rattle.executor_core.specs.Answers.{Reply}
+use Rattle.executor_model.specs.Answers.{Reply}
 use Rattle.live_engine.specs.LiveLines.{live_history, next_moment}
 use Rattle.live_engine.specs.LiveRuns.{Notes, all_noted, made_calls}
 use Rattle.live_engine.specs.own.LiveSteps.{IsAt, TakesLine, noted_line}

@@ -5,14 +5,14 @@ use Rattle.std.proofs.lemmas.Bool.{false≢true}
 use Rattle.std.proofs.lemmas.Bool.Decides.{nat_tests}
 use Rattle.sched_time.specs.Times.{longest}
 use Rattle.queue_code.specs.Calls.{Planned, task_count}
-use Rattle.executor_core.specs.declared.Event.{Event}
-use Rattle.executor_core.specs.declared.Happening.{Happening}
-use Rattle.executor_core.specs.declared.Happening.TheVariants as h
-use Rattle.executor_core.specs.declared.Answer.{Answer}
-use Rattle.executor_core.specs.declared.Answer.TheVariants as a
-use Rattle.executor_core.specs.declared.Event.TheVariants as v
-use Rattle.executor_core.specs.Answers.{Reply, moment_after}
-use Rattle.executor_core.specs.Histories.{HistoryEntry, answer, entry_of, happenings, made, now_of, IsHistoryOf}
+use Rattle.executor_model.specs.declared.Event.{Event}
+use Rattle.executor_model.specs.declared.Happening.{Happening}
+use Rattle.executor_model.specs.declared.Happening.TheVariants as h
+use Rattle.executor_model.specs.declared.Answer.{Answer}
+use Rattle.executor_model.specs.declared.Answer.TheVariants as a
+use Rattle.executor_model.specs.declared.Event.TheVariants as v
+use Rattle.executor_model.specs.Answers.{Reply, moment_after}
+use Rattle.executor_model.specs.Histories.{HistoryEntry, answer, entry_of, happenings, made, now_of, IsHistoryOf}
 use Rattle.call_text.specs.declared.call.CallLine.{CallLine}
 use Rattle.call_text.specs.declared.call.CallLine.TheVariants as call
 use Rattle.task_table.specs.Tables.{workers_of}

@@ -1,6 +1,6 @@
 pub use Rattle.queue_code.specs.Calls
-pub use Rattle.executor_core.specs.Histories
-pub use Rattle.executor_core.specs.Flows
+pub use Rattle.executor_model.specs.Histories
+pub use Rattle.executor_model.specs.Flows
 pub use Rattle.trace_text.specs.Spelling
 pub use Rattle.call_text.specs.Spelling as CallSpelling
 pub use Rattle.call_text.specs.Reading as CallReading

@@ -6,14 +6,14 @@ use Rattle.sched_time.specs.declared.timing.Timing.TheVariants as timing
 use Rattle.queue_code.specs.declared.call.CodeCall.{CodeCall}
 use Rattle.queue_code.specs.declared.call.CodeCall.TheVariants as c
 use Rattle.queue_code.specs.Calls.{Planned, submits_task, task_count}
-use Rattle.executor_core.specs.declared.types.Event.{Event}
-use Rattle.executor_core.specs.declared.types.Event.TheVariants as v
-use Rattle.executor_core.specs.declared.types.Happening.{Happening}
-use Rattle.executor_core.specs.declared.types.Happening.TheVariants as h
-use Rattle.executor_core.specs.declared.types.Answer.TheVariants as a
-use Rattle.executor_core.specs.Answers.{bare}
-use Rattle.executor_core.specs.Histories.{HistoryEntry, answer, entry_of, happenings, now_of}
-use Rattle.executor_core.specs.Flows.{happening_of, lines_of}
+use Rattle.executor_model.specs.declared.types.Event.{Event}
+use Rattle.executor_model.specs.declared.types.Event.TheVariants as v
+use Rattle.executor_model.specs.declared.types.Happening.{Happening}
+use Rattle.executor_model.specs.declared.types.Happening.TheVariants as h
+use Rattle.executor_model.specs.declared.types.Answer.TheVariants as a
+use Rattle.executor_model.specs.Answers.{bare}
+use Rattle.executor_model.specs.Histories.{HistoryEntry, answer, entry_of, happenings, now_of}
+use Rattle.executor_model.specs.Flows.{happening_of, lines_of}
 use Rattle.trace_text.specs.Spelling.{event_line, FitsEvent, lines_text}
 use Rattle.call_text.specs.declared.call.CallLine.{CallLine}
 use Rattle.call_text.specs.declared.call.CallLine.TheVariants as call

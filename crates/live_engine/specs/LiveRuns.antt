@@ -3,8 +3,8 @@
 use Rattle.std.specs.Prelude.{◌≡◌, ℕ, ◌+◌, ◌<◌, ◌≤◌, List, [], ◌∷◌, ◌++◌, ◌⊎◌, Option, Result, Ok, Err, IfSome, length, take}
 use Rattle.std.specs.Io.KnownBytes.{Appends, Consumes, IsAtEnd}
 use Rattle.queue_code.specs.Calls.{IsOrderly}
-use Rattle.executor_core.specs.Counts.{IsWorkerCount}
-use Rattle.executor_core.specs.Histories.{happenings, made, IsHistoryOf}
+use Rattle.executor_model.specs.Counts.{IsWorkerCount}
+use Rattle.executor_model.specs.Histories.{happenings, made, IsHistoryOf}
 use Rattle.trace_text.specs.Reading.{IsPart, IsRead, IsUnread}
 use Rattle.call_text.specs.declared.live.LiveFront.TheVariants as front
 use Rattle.call_text.specs.Reading.{IsLiveFront}

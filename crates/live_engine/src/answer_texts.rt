@@ -1,14 +1,14 @@
 //! The lines of an answer, and their text.
 ghost use Rattle.std.specs.Prelude.{◌≡◌, IfSome, IsTrue, length};
 ghost use Rattle.trace_text.specs.Spelling.{lines_text};
-ghost use Rattle.executor_core.specs.Flows.{lines_at};
+ghost use Rattle.executor_model.specs.Flows.{lines_at};
 ghost use Rattle.byte_ends.specs.Ends.{CountsTries};
 ghost use Rattle.sched_engine.specs.Pieces.{GivesText};
 ghost use Rattle.live_core.specs.Said.{ending};
 ghost use Rattle.live_engine.specs.own.LiveSteps.{lines_told};
 
 use byte_ends::Sink;
-use executor_core::{Answer, Line, Message};
+use executor_model::{Answer, Line, Message};
 use live_core::ScheduledExecutor;
 use sched_engine::Draft;
 use std::alloc::Allocator;

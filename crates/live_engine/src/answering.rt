@@ -12,7 +12,7 @@ use crate::splitting::split_live;
 use crate::stops::PieceEnd;
 use byte_ends::Sink;
 use call_journal::Journal;
-use executor_core::Line;
+use executor_model::Line;
 use live_core::ScheduledExecutor;
 use sched_engine::Draft;
 use std::alloc::Allocator;

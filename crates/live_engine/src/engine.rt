@@ -17,7 +17,7 @@ use crate::report::LiveReport;
 use crate::stops::PieceEnd;
 use byte_ends::{Filled, HeldBytes, Sink, Source, write_text};
 use call_journal::Journal;
-use executor_core::Line;
+use executor_model::Line;
 use live_core::{MakeError, ScheduledExecutor};
 use sched_engine::{Draft, RunError, StopError};
 use std::alloc::Allocator;

@@ -1,7 +1,7 @@
 //! A line of the input.
 
 use call_text::CallLine;
-use executor_core::Event;
+use executor_model::Event;
 
 /// A line of the input.
 #[derive(Clone, Copy, Debug, PartialEq, Eq)]

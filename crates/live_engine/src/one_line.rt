@@ -11,7 +11,7 @@ use crate::live_line::LiveLine;
 use crate::stepping::step;
 use crate::stops::PieceEnd;
 use call_journal::{Journal, MadeCall};
-use executor_core::Line;
+use executor_model::Line;
 use live_core::ScheduledExecutor;
 use std::alloc::Allocator;
 

@@ -1,8 +1,8 @@
 //! What the executor answers, as the lines of a trace have it.
 ghost use Rattle.std.specs.Prelude.{◌≡◌, ◌^◌, ◌<◌, IfOk, IfErr, IfSome};
 ghost use Rattle.sched_time.specs.declared.timing.Timing as timings;
-ghost use Rattle.executor_core.specs.Answers.{bare, kind_of};
-ghost use Rattle.executor_core.specs.declared.types.Answer.TheVariants as answers;
+ghost use Rattle.executor_model.specs.Answers.{bare, kind_of};
+ghost use Rattle.executor_model.specs.declared.types.Answer.TheVariants as answers;
 ghost use Rattle.live_core.specs.Said.{number_of, submit_reply};
 ghost use Rattle.live_core.specs.Events.{finish_reply, start_reply};
 ghost use Rattle.live_core.specs.Shutting as shutting;
@@ -10,7 +10,7 @@ ghost use Rattle.live_engine.specs.declared.stops.PieceEnd.TheVariants as e;
 ghost use Rattle.live_engine.specs.own.LiveSteps as steps;
 
 use crate::stops::PieceEnd;
-use executor_core::{Answer, Kind, Refusal};
+use executor_model::{Answer, Kind, Refusal};
 use live_core::{Asked, Begun, CallError, Ended, Submitted};
 
 /// The answer to a submission, whose number is below 2^32.

@@ -11,7 +11,7 @@ ghost use Rattle.live_engine.specs.own.LiveSteps.{TakesLine, Refuses};
 use crate::replies::{ask_answer, shutdown_answer, stop_of, submit_answer};
 use crate::stops::PieceEnd;
 use call_text::CallLine;
-use executor_core::{Answer, Kind};
+use executor_model::{Answer, Kind};
 use live_core::ScheduledExecutor;
 use sched_time::Which;
 use std::alloc::Allocator;

@@ -1,6 +1,6 @@
 //! The steps of events.
 ghost use Rattle.std.specs.Prelude.{◌≡◌, ◌≤◌, IfOk, IfErr};
-ghost use Rattle.executor_core.specs.declared.types.Event.TheVariants as v;
+ghost use Rattle.executor_model.specs.declared.types.Event.TheVariants as v;
 ghost use Rattle.live_core.specs.Said as said;
 ghost use Rattle.live_core.specs.Said.{ending};
 ghost use Rattle.live_engine.specs.LiveLines.{most_numbers};
@@ -9,7 +9,7 @@ ghost use Rattle.live_engine.specs.own.LiveSteps.{TakesLine, Refuses};
 
 use crate::replies::{finish_answer, start_answer};
 use crate::stops::PieceEnd;
-use executor_core::{Answer, Event};
+use executor_model::{Answer, Event};
 use live_core::{ScheduledExecutor, StartError};
 use sched_time::Ending;
 use std::alloc::Allocator;

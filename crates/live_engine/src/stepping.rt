@@ -8,7 +8,7 @@ use crate::live_line::LiveLine;
 use crate::step_calls::step_call;
 use crate::step_events::step_event;
 use crate::stops::PieceEnd;
-use executor_core::Answer;
+use executor_model::Answer;
 use live_core::ScheduledExecutor;
 use std::alloc::Allocator;
 

@@ -9,19 +9,19 @@ use Rattle.sched_time.specs.Times.{longest}
 use Rattle.queue_code.specs.declared.call.CodeCall.{CodeCall}
 use Rattle.queue_code.specs.declared.call.CodeCall.TheVariants as c
 use Rattle.queue_code.specs.Calls.{Planned, IsOrderly, IsOrderlyFrom, IsOrderlyCall, count_after, submits_task, task_count, most_calls_of_code}
-use Rattle.executor_core.specs.declared.types.Event.{Event}
-use Rattle.executor_core.specs.declared.types.Event.TheVariants as v
-use Rattle.executor_core.specs.declared.types.Happening.{Happening}
-use Rattle.executor_core.specs.declared.types.Happening.TheVariants as h
-use Rattle.executor_core.specs.declared.types.EventError.TheVariants as x
-use Rattle.executor_core.specs.declared.types.Answer.{Answer}
-use Rattle.executor_core.specs.declared.types.Answer.TheVariants as a
-use Rattle.executor_core.specs.Answers.{Reply, bare, effect_on, moment_after, is_accepted}
-use Rattle.executor_core.specs.Histories.{HistoryEntry, entry_of, happenings, made, now_of, answer, is_call, IsHistoryOf, MayFrom}
-use Rattle.executor_core.specs.State.{State, next, reply_of, state_after, view_of_state, after_from, opening}
-use Rattle.executor_core.specs.Flows.{history_from, lines_at, lines_from, lines_of}
-use Rattle.executor_core.proofs.Agree.{opening_sound}
-use Rattle.executor_core.proofs.Flowing.{how_many-le, lines_follow}
+use Rattle.executor_model.specs.declared.types.Event.{Event}
+use Rattle.executor_model.specs.declared.types.Event.TheVariants as v
+use Rattle.executor_model.specs.declared.types.Happening.{Happening}
+use Rattle.executor_model.specs.declared.types.Happening.TheVariants as h
+use Rattle.executor_model.specs.declared.types.EventError.TheVariants as x
+use Rattle.executor_model.specs.declared.types.Answer.{Answer}
+use Rattle.executor_model.specs.declared.types.Answer.TheVariants as a
+use Rattle.executor_model.specs.Answers.{Reply, bare, effect_on, moment_after, is_accepted}
+use Rattle.executor_model.specs.Histories.{HistoryEntry, entry_of, happenings, made, now_of, answer, is_call, IsHistoryOf, MayFrom}
+use Rattle.executor_model.specs.State.{State, next, reply_of, state_after, view_of_state, after_from, opening}
+use Rattle.executor_model.specs.Flows.{history_from, lines_at, lines_from, lines_of}
+use Rattle.executor_model.proofs.Agree.{opening_sound}
+use Rattle.executor_model.proofs.Flowing.{how_many-le, lines_follow}
 use Rattle.executor_laws.specs.Additions.{LooksBelow, AllLookBelow, StandsFor}
 use Rattle.executor_laws.proofs.AddedCalls.{counted, task_one}
 use Rattle.executor_laws.proofs.Adding.{calls_may_be_added}

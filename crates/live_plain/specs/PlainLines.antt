@@ -3,8 +3,8 @@
 use Rattle.std.specs.Prelude.{ℕ, ◌<◌, ◌≤◌, List, [], ◌∷◌, length}
 use Rattle.sched_time.specs.Times.{longest}
 use Rattle.queue_code.specs.Calls.{most_calls_of_code}
-use Rattle.executor_core.specs.declared.types.Line.{Line}
-use Rattle.executor_core.specs.Flows.{lines_of}
+use Rattle.executor_model.specs.declared.types.Line.{Line}
+use Rattle.executor_model.specs.Flows.{lines_of}
 use Rattle.call_text.specs.declared.call.CallLine.{CallLine}
 use Rattle.call_text.specs.Spelling.{FitsCall}
 use Rattle.live_engine.specs.declared.live_line.LiveLine.{LiveLine}

@@ -4,7 +4,7 @@ ghost use Rattle.queue_code.specs.Calls as calls;
 
 use crate::call_codes::code_of;
 use call_text::CallLine;
-use executor_core::{Event, Happening, Line};
+use executor_model::{Event, Happening, Line};
 use executor_plain::trace_of_happenings;
 use live_engine::LiveLine;
 use queue_code::CodeCall;
@@ -49,8 +49,8 @@ impl<A: Allocator + Copy> Script<A> {
     ghost use Rattle.std.specs.Prelude.{◌≡◌, ℕ, ◌+◌, ◌<◌, ◌≤◌, ◌↔◌, if◌then◌else◌, length, reverse, [], IfOk, OnOk, IsTrue};
     ghost use Rattle.sched_time.specs.Times.{longest};
     ghost use Rattle.queue_code.specs.Calls.{IsPlanned, most_calls_of_code};
-    ghost use Rattle.executor_core.specs.Answers.{is_accepted};
-    ghost use Rattle.executor_core.specs.Flows.{history_from, lines_of};
+    ghost use Rattle.executor_model.specs.Answers.{is_accepted};
+    ghost use Rattle.executor_model.specs.Flows.{history_from, lines_of};
     ghost use Rattle.live_engine.specs.LiveLines.{LiveHistory, after_line};
     ghost use Rattle.live_engine.specs.declared.live_line.LiveLine.TheVariants as l;
     ghost use Rattle.live_plain.specs.PlainLines.{IsPlain};

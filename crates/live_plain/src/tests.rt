@@ -12,7 +12,7 @@ mod usage;
 
 use crate::trace_of_lines;
 use call_text::CallLine;
-use executor_core::Event;
+use executor_model::Event;
 use executors::trace_of_executor;
 use live_engine::LiveLine;
 use std::alloc::Global;

@@ -4,7 +4,7 @@ ghost use Rattle.live_plain.specs.PlainLines.{ArePlain, lines_in};
 ghost use Rattle.live_plain.specs.own.Scripts.{ShowsAll};
 
 use crate::script::Script;
-use executor_core::Line;
+use executor_model::Line;
 use live_engine::LiveLine;
 use std::alloc::{AllocError, Allocator};
 

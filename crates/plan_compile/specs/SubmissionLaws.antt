@@ -6,8 +6,8 @@ use Rattle.queue_code.specs.declared.call.CodeCall.TheVariants as made
 use Rattle.queue_code.specs.Calls.{Planned, numbers}
 use Rattle.plan_read.specs.Plans.{BlockTree, PlanTree, names_of}
 use Rattle.plan_compile.specs.PlanCalls.{calls_of_plan}
-use Rattle.executor_core.specs.declared.types.Kind.{Kind}
-use Rattle.executor_core.specs.Answers.{kind_of}
+use Rattle.executor_model.specs.declared.types.Kind.{Kind}
+use Rattle.executor_model.specs.Answers.{kind_of}
 use Rattle.plan_compile.specs.Submissions.{Submitted, submissions_of_plan}
 
 -- what a plan's calls tell of a submission: its task, its moment, and, where it is legal, its kind and when its first run is due

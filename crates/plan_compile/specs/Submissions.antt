@@ -7,8 +7,8 @@ use Rattle.plan_read.specs.declared.plans.Call.{Call}
 use Rattle.plan_read.specs.declared.plans.Op.{Op}
 use Rattle.plan_read.specs.declared.plans.Op.TheVariants as ops
 use Rattle.plan_read.specs.Plans.{BlockTree, PlanTree, tasks_after}
-use Rattle.executor_core.specs.declared.types.Kind.{Kind}
-use Rattle.executor_core.specs.declared.types.Kind.TheVariants as kind
+use Rattle.executor_model.specs.declared.types.Kind.{Kind}
+use Rattle.executor_model.specs.declared.types.Kind.TheVariants as kind
 
 -- a submission: the number of its task, its name, its kind, the moment of its call, and the due moment of its first run, which is
 -- none where its period, or its fixed delay, is illegal

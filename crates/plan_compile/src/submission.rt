@@ -1,6 +1,6 @@
 //! A submission of a plan.
 
-use executor_core::Kind;
+use executor_model::Kind;
 use plan_read::Name;
 use std::marker::Model;
 

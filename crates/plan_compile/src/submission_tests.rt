@@ -1,7 +1,7 @@
 //! The submissions of plans, and their names.
 use crate::names::names_of_tasks;
 use crate::submissions::Submissions;
-use executor_core::Kind;
+use executor_model::Kind;
 use plan_read::read_plan;
 use refusing_allocator::Refusing;
 use std::test::Fail;

@@ -6,7 +6,7 @@ ghost use Rattle.plan_compile.specs.Submissions.{submission_by, submissions_of_p
 
 use crate::place::Place;
 use crate::submission::Submission;
-use executor_core::Kind;
+use executor_model::Kind;
 use plan_read::{Op, Plan};
 use std::alloc::Allocator;
 use std::marker::Model;

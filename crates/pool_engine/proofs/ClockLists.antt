@@ -2,8 +2,8 @@
 use Rattle.std.proofs.Common.{◌≡◌, ℕ, List, ◌++◌, map, reverse, ap, ◌∙◌, sym, subst}
 use Rattle.std.proofs.lemmas.List.{map-append, reverse-append}
 use Rattle.std.proofs.lemmas.List.Elements.{All-append}
-use Rattle.executor_core.specs.declared.Event.{Event}
-use Rattle.executor_core.specs.declared.Event.TheVariants as v
+use Rattle.executor_model.specs.declared.Event.{Event}
+use Rattle.executor_model.specs.declared.Event.TheVariants as v
 use Rattle.trace_text.specs.Spelling.{FitsEvent}
 use Rattle.sched_engine.specs.Inputs.{AreEvents, input_of}
 use Rattle.sched_engine.proofs.Inputs.{input_of-append}

@@ -3,10 +3,10 @@ use Rattle.std.proofs.Common.{◌≡◌, ◌≢◌, ℕ, ◌+◌, ◌<◌, ◌�
 use Rattle.std.specs.Prelude.{slice_index_or}
 use Rattle.std.proofs.lemmas.Bool.{false≢true}
 use Rattle.std.proofs.lemmas.List.{append_cancel_left, reverse-reverse, take_all, take_more}
-use Rattle.executor_core.specs.declared.Happening.{Happening}
-use Rattle.executor_core.specs.declared.Happening.TheVariants as h
+use Rattle.executor_model.specs.declared.Happening.{Happening}
+use Rattle.executor_model.specs.declared.Happening.TheVariants as h
 use Rattle.sched_time.specs.declared.timing.Ending.{Ending}
-use Rattle.executor_core.proofs.Flowing.{happenings_from, how_many-more}
+use Rattle.executor_model.proofs.Flowing.{happenings_from, how_many-more}
 use Rattle.queue_code.specs.Calls.{Planned}
 use Rattle.worker_pool.specs.Books.{history_for}
 use Rattle.pool_engine.specs.PoolRuns.{clocks_of, happened_in, event_count, is_taken}

@@ -4,10 +4,10 @@ use Rattle.std.specs.Prelude.{All}
 use Rattle.std.proofs.lemmas.List.{get_or-reverse, length-reverse}
 use Rattle.std.proofs.lemmas.List.Elements.{All-get_or, All-from_get_or}
 use Rattle.queue_code.specs.Calls.{Planned}
-use Rattle.executor_core.specs.declared.Happening.{Happening}
-use Rattle.executor_core.specs.declared.Happening.TheVariants as h
-use Rattle.executor_core.specs.Histories.{happenings}
-use Rattle.executor_core.proofs.Flowing.{happenings_from}
+use Rattle.executor_model.specs.declared.Happening.{Happening}
+use Rattle.executor_model.specs.declared.Happening.TheVariants as h
+use Rattle.executor_model.specs.Histories.{happenings}
+use Rattle.executor_model.proofs.Flowing.{happenings_from}
 use Rattle.trace_check.specs.Laws.{FitsHappening}
 use Rattle.trace_check.proofs.Fitting.{histories_conform}
 use Rattle.sched_engine.proofs.Inputs.{length-happenings}

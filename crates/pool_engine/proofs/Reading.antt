@@ -4,7 +4,7 @@ use Rattle.std.specs.Prelude.{◌==◌}
 use Rattle.std.proofs.lemmas.Bool.{false≢true}
 use Rattle.std.specs.Io.KnownBytes.{Consumes, IsAtEnd, Keeps, prepend_known}
 use Rattle.std.proofs.lemmas.List.Elements.{All-nil}
-use Rattle.executor_core.specs.declared.Event.TheVariants as v
+use Rattle.executor_model.specs.declared.Event.TheVariants as v
 use Rattle.trace_text.specs.Spelling.{FitsEvent}
 use Rattle.trace_text.specs.Reading.{IsPart, most_event_bytes}
 use Rattle.trace_text.proofs.Fronts.{some_bytes, unread_part}

@@ -2,12 +2,12 @@
 use Rattle.std.proofs.Common.{◌≡◌, ℕ, ◌^◌, ◌≤◌, List, Option, Ok, Err, length, take, inl, inr, ap, ◌∙◌, sym, subst, arith}
 use Rattle.std.specs.Prelude.{All}
 use Rattle.std.specs.Io.KnownBytes.{Appends}
-use Rattle.executor_core.specs.declared.Happening.{Happening}
+use Rattle.executor_model.specs.declared.Happening.{Happening}
 use Rattle.trace_check.specs.Laws.{FitsHappening}
-use Rattle.executor_core.specs.declared.Line.{Line}
+use Rattle.executor_model.specs.declared.Line.{Line}
 use Rattle.executor_core.specs.CoreView.{state_of, workers_of}
-use Rattle.executor_core.specs.Needs.{IsRipe}
-use Rattle.executor_core.specs.State.{view_of_state}
+use Rattle.executor_model.specs.Needs.{IsRipe}
+use Rattle.executor_model.specs.State.{view_of_state}
 use Rattle.queue_code.specs.Calls.{Planned}
 use Rattle.trace_text.specs.Spelling.{lines_text}
 use Rattle.worker_pool.specs.Books.{BookView, IsBook, past_of}

@@ -1,8 +1,8 @@
 -- Taking: clock lines that were taken from the front of the bytes that are held.
 use Rattle.std.proofs.Common.{◌≡◌, ℕ, ◌+◌, ◌-◌, ◌≤◌, List, [], ◌∷◌, ◌++◌, take, drop, length, refl, ap, ◌∙◌, sym, subst, arith, append_assoc, append-nil, take-append-drop, length-append}
 use Rattle.std.proofs.lemmas.List.Elements.{All-cons, All-nil}
-use Rattle.executor_core.specs.declared.Event.{Event}
-use Rattle.executor_core.specs.declared.Event.TheVariants as v
+use Rattle.executor_model.specs.declared.Event.{Event}
+use Rattle.executor_model.specs.declared.Event.TheVariants as v
 use Rattle.trace_text.specs.Spelling.{FitsEvent, event_line}
 use Rattle.trace_text.specs.Reading.{IsFront}
 use Rattle.trace_text.specs.declared.front.Front.TheVariants as front

@@ -2,8 +2,8 @@
 -- All of it is this project's rule.
 use Rattle.std.specs.Prelude.{◌≡◌, ◌≢◌, ℕ, ◌+◌, ◌<◌, ◌≤◌, List, [], ◌++◌, ◌⊎◌, Option, length, map, reverse}
 use Rattle.std.specs.Io.KnownBytes.{Consumes, IsAtEnd}
-use Rattle.executor_core.specs.declared.Event.{Event}
-use Rattle.executor_core.specs.declared.Event.TheVariants as v
+use Rattle.executor_model.specs.declared.Event.{Event}
+use Rattle.executor_model.specs.declared.Event.TheVariants as v
 use Rattle.trace_text.specs.Spelling.{FitsEvent, event_line}
 use Rattle.trace_text.specs.Reading.{IsPart}
 use Rattle.pool_engine.specs.declared.clocks.ReadingError.{ReadingError}

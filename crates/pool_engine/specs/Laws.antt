@@ -2,8 +2,8 @@
 -- All of it is this project's rule.
 use Rattle.std.specs.Prelude.{ℕ, List, ◌⊎◌}
 use Rattle.queue_code.specs.Calls.{Planned, IsPlanned}
-use Rattle.executor_core.specs.Counts.{IsWorkerCount}
-use Rattle.executor_core.specs.Histories.{HistoryEntry}
+use Rattle.executor_model.specs.Counts.{IsWorkerCount}
+use Rattle.executor_model.specs.Histories.{HistoryEntry}
 use Rattle.trace_check.specs.Findings.{Conforms}
 use Rattle.sched_engine.specs.Running.{text_of}
 use Rattle.pool_engine.specs.PoolRuns.{RunsToLimit, RunsToRest}

@@ -1,8 +1,8 @@
 pub use Rattle.queue_code.specs.Calls
-pub use Rattle.executor_core.specs.Histories
-pub use Rattle.executor_core.specs.Flows
-pub use Rattle.executor_core.specs.State
-pub use Rattle.executor_core.specs.Needs
+pub use Rattle.executor_model.specs.Histories
+pub use Rattle.executor_model.specs.Flows
+pub use Rattle.executor_model.specs.State
+pub use Rattle.executor_model.specs.Needs
 pub use Rattle.trace_text.specs.Spelling
 pub use Rattle.trace_text.specs.Reading
 pub use Rattle.sched_engine.specs.Inputs

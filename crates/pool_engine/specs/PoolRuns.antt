@@ -2,12 +2,12 @@
 -- All of it is this project's rule.
 use Rattle.std.specs.Prelude.{◌≡◌, ℕ, ◌^◌, ◌≤◌, All, Bool, true, false, List, [], ◌∷◌, ◌⊎◌, Option, Result, Ok, Err, length, reverse, take}
 use Rattle.std.specs.Io.KnownBytes.{Appends, Keeps}
-use Rattle.executor_core.specs.declared.Happening.{Happening}
-use Rattle.executor_core.specs.declared.Happening.TheVariants as h
-use Rattle.executor_core.specs.Histories.{HistoryEntry, IsHistoryOf, happenings}
-use Rattle.executor_core.specs.Flows.{lines_of}
-use Rattle.executor_core.specs.Needs.{IsRipe}
-use Rattle.executor_core.specs.State.{after, view_of_state}
+use Rattle.executor_model.specs.declared.Happening.{Happening}
+use Rattle.executor_model.specs.declared.Happening.TheVariants as h
+use Rattle.executor_model.specs.Histories.{HistoryEntry, IsHistoryOf, happenings}
+use Rattle.executor_model.specs.Flows.{lines_of}
+use Rattle.executor_model.specs.Needs.{IsRipe}
+use Rattle.executor_model.specs.State.{after, view_of_state}
 use Rattle.queue_code.specs.Calls.{Planned, how_many}
 use Rattle.trace_check.specs.Laws.{FitsHappening}
 use Rattle.sched_engine.specs.declared.report.Report.{Report}

@@ -5,7 +5,7 @@ ghost use Rattle.pool_engine.specs.ClockLines.{AreAllClocks, EndsReading};
 ghost use Rattle.pool_engine.specs.own.ClockLines.{CountsReading, IsClockRead, IsNoClockEnd, IsOther, StopsAt, TakesClocks};
 
 use byte_ends::{Filled, HeldBytes, Source};
-use executor_core::Event;
+use executor_model::Event;
 use sched_engine::RunError;
 use std::alloc::{AllocError, Allocator};
 use trace_text::{is_part, split_event};

@@ -7,7 +7,7 @@ ghost use Rattle.pool_engine.specs.PoolRuns.{clocks_of, event_count};
 ghost use Rattle.pool_engine.specs.own.Ended.{TextWritten};
 
 use byte_ends::{Sink, write_text};
-use executor_core::{Happening, KeptHappening, Line};
+use executor_model::{Happening, KeptHappening, Line};
 use sched_engine::Draft;
 use sched_time::Ending;
 use std::alloc::Allocator;

@@ -3,7 +3,7 @@ ghost use Rattle.std.specs.Prelude.{◌≡◌, ◌<◌, ◌≤◌, ◌↔◌, []
 ghost use Rattle.queue_code.specs.Calls.{task_count};
 ghost use Rattle.queue_code.specs.Codes.{calls_of};
 ghost use Rattle.task_word.specs.Views.{new_core};
-ghost use Rattle.executor_core.specs.Counts.{IsWorkerCount};
+ghost use Rattle.executor_model.specs.Counts.{IsWorkerCount};
 ghost use Rattle.sched_engine.specs.Running.{CountsReader, CountsWriter};
 ghost use Rattle.pool_engine.specs.PoolRuns.{LeavesWriter, PoolRan, PoolWrote, event_count};
 ghost use Rattle.pool_engine.specs.own.Ended.{CountsLast, CountsStop, IsRested, StopLeaves, stop_of_last};
@@ -12,7 +12,7 @@ use crate::clocks::read_clocks;
 use crate::ended::{look_back, write_lines};
 use crate::stops::{LastError, PoolStop};
 use byte_ends::{Sink, Source};
-use executor_core::MOST_WORKERS;
+use executor_model::MOST_WORKERS;
 use queue_code::Code;
 use sched_engine::{Draft, HeapAllocator, Report, RunError, code_of};
 use sched_time::Ending;

@@ -4,7 +4,7 @@ use Rattle.std.specs.Prelude.{nat_le, nat_lt}
 use Rattle.std.proofs.lemmas.Bool.{cases_Bool, and_parts}
 use Rattle.std.proofs.lemmas.Bool.Decides.{nat_tests}
 use Rattle.std.specs.Io.KnownBytes.{Keeps}
-use Rattle.executor_core.specs.Counts.{IsWorkerCount, most_workers}
+use Rattle.executor_model.specs.Counts.{IsWorkerCount, most_workers}
 use Rattle.plan_read.specs.Migrating.{MigrationFails}
 use Rattle.plan_read.specs.Plans.{PlanTree}
 use Rattle.plan_read.specs.Reads.{out_of_memory}

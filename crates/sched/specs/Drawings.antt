@@ -2,7 +2,7 @@
 -- All of it is this project's rule.
 use Rattle.std.specs.Prelude.{◌≡◌, ℕ, ◌⊎◌, List, Option, Result, Ok, Err, take}
 use Rattle.std.specs.Io.KnownBytes.{Appends, Keeps}
-use Rattle.executor_core.specs.Counts.{IsWorkerCount}
+use Rattle.executor_model.specs.Counts.{IsWorkerCount}
 use Rattle.plan_read.specs.Plans.{PlanTree}
 use Rattle.plan_compile.specs.PlanCalls.{calls_of_plan}
 use Rattle.trace_check.specs.Findings.{Breaks}

@@ -5,7 +5,7 @@ use Rattle.std.specs.Borrow.{Bor}
 use Rattle.std.specs.Io.KnownBytes.{Appends, Keeps}
 use Rattle.std.specs.declared.io.Error.{Error}
 use Rattle.clap.specs.Words.{Text}
-use Rattle.executor_core.specs.Counts.{IsWorkerCount}
+use Rattle.executor_model.specs.Counts.{IsWorkerCount}
 use Rattle.line_reasons.specs.Events.{AreEvents}
 use Rattle.plan_compile.specs.PlanCalls.{calls_of_plan}
 use Rattle.plan_read.specs.Plans.{PlanTree}

@@ -2,7 +2,7 @@
 -- All of it is this project's rule.
 use Rattle.std.specs.Prelude.{◌≡◌, ℕ, ◌⊎◌, Bool, false, ◌&&◌, nat_le, nat_lt, List, [], ◌∷◌, length, Option, is_some, unwrap_or, Result, Err}
 use Rattle.std.specs.Io.KnownBytes.{Keeps}
-use Rattle.executor_core.specs.Counts.{most_workers}
+use Rattle.executor_model.specs.Counts.{most_workers}
 use Rattle.plan_read.specs.Migrating.{MigrationFails}
 use Rattle.plan_read.specs.Plans.{PlanTree}
 use Rattle.plan_read.specs.Texts.{TextWrites, TextFails}

@@ -7,7 +7,7 @@ ghost use Rattle.sched.specs.Commands.{check_app, code_app, draw_app, events_fil
 use crate::help::{CODE, DRAWING, FINDINGS, FORMS, LINT, LIVE, MIGRATION, POOL, STATUSES, TASKS};
 use crate::version::VERSION;
 use clap::{Arg, ArgAction, Command, value_parser};
-use executor_core::MOST_WORKERS;
+use executor_model::MOST_WORKERS;
 use std::alloc::{AllocError, Global};
 
 /// The command lines of the program: `sched run PLAN --workers N [--limit N]`, `sched pool` with the same arguments,

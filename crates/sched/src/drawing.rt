@@ -2,7 +2,7 @@
 
 ghost use Rattle.std.specs.Prelude.{◌≡◌, ◌≤◌, ◌↔◌, IsErrOf, MatchResult, Result, length};
 ghost use Rattle.std.specs.declared.io.Error.{Error};
-ghost use Rattle.executor_core.specs.Counts.{IsWorkerCount};
+ghost use Rattle.executor_model.specs.Counts.{IsWorkerCount};
 ghost use Rattle.sched.specs.Drawings.{IsDrawnAsAsked};
 ghost use Rattle.sched.specs.EndCounts.{CountsOutput};
 ghost use Rattle.sched.specs.Errors.{status_of};

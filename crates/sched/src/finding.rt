@@ -1,7 +1,7 @@
 //! What is found of a trace, as a line and as an exit status.
 
 ghost use Rattle.std.specs.Prelude.{◌≡◌, ◌≤◌, ◌↔◌, IfOk, IsErrOf, MatchResult, length, string_bytes};
-ghost use Rattle.executor_core.specs.Counts.{IsWorkerCount};
+ghost use Rattle.executor_model.specs.Counts.{IsWorkerCount};
 ghost use Rattle.sched.specs.EndCounts.{CountsOutput};
 ghost use Rattle.sched.specs.Errors.{status_of as fault_status};
 ghost use Rattle.sched.specs.Findings.{IsCheckedAsAsked, IsFindingTold, finding_text, finding_status};

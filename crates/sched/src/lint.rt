@@ -1,7 +1,7 @@
 //! Why a plan is refused, or the events or the trace that go with it, as a line.
 
 ghost use Rattle.std.specs.Prelude.{◌≡◌, ◌⊎◌, IfErr, IfOk, IsErrOf, IsSome, MatchOption, MatchResult};
-ghost use Rattle.executor_core.specs.Counts.{IsWorkerCount};
+ghost use Rattle.executor_model.specs.Counts.{IsWorkerCount};
 ghost use Rattle.plan_read.specs.Texts.{TextFails};
 ghost use Rattle.plan_read.specs.declared.faults.PlanFault.{PlanFault};
 ghost use Rattle.sched.specs.Answers.{end_of};

@@ -3,14 +3,14 @@ use Rattle.std.proofs.Common.{◌≡◌, ℕ, zero, suc, ◌^◌, ◌<◌, ◌�
 use Rattle.std.specs.Prelude.{All}
 use Rattle.std.proofs.lemmas.List.Elements.{All-nil, All-cons, All-head, All-tail}
 use Rattle.queue_code.specs.Calls.{Planned, IsPlanned}
-use Rattle.executor_core.specs.declared.types.Event.{Event}
-use Rattle.executor_core.specs.declared.types.Event.TheVariants as v
-use Rattle.executor_core.specs.declared.types.Happening.{Happening}
-use Rattle.executor_core.specs.declared.types.Happening.TheVariants as h
-use Rattle.executor_core.specs.Counts.{IsWorkerCount}
-use Rattle.executor_core.specs.Histories.{HistoryEntry, made, now_of}
-use Rattle.executor_core.specs.Flows.{flow, calls_before, happening_of}
-use Rattle.executor_core.proofs.Flowing.{made_past}
+use Rattle.executor_model.specs.declared.types.Event.{Event}
+use Rattle.executor_model.specs.declared.types.Event.TheVariants as v
+use Rattle.executor_model.specs.declared.types.Happening.{Happening}
+use Rattle.executor_model.specs.declared.types.Happening.TheVariants as h
+use Rattle.executor_model.specs.Counts.{IsWorkerCount}
+use Rattle.executor_model.specs.Histories.{HistoryEntry, made, now_of}
+use Rattle.executor_model.specs.Flows.{flow, calls_before, happening_of}
+use Rattle.executor_model.proofs.Flowing.{made_past}
 use Rattle.trace_text.specs.Spelling.{FitsEvent}
 use Rattle.plan_read.specs.Plans.{PlanTree}
 use Rattle.plan_read.specs.Texts.{TextWrites}

@@ -1,5 +1,5 @@
-pub use Rattle.executor_core.specs.Histories
-pub use Rattle.executor_core.specs.Flows
+pub use Rattle.executor_model.specs.Histories
+pub use Rattle.executor_model.specs.Flows
 pub use Rattle.trace_text.specs.Spelling
 pub use Rattle.plan_read.specs.Texts
 pub use Rattle.plan_compile.specs.PlanCalls

@@ -6,18 +6,18 @@ use Rattle.queue_code.specs.Calls.{task_count}
 use Rattle.plan_read.specs.declared.faults.PlanFault.{PlanFault}
 use Rattle.plan_read.specs.Plans.{PlanTree}
 use Rattle.plan_read.specs.Texts.{TextFails, TextWrites}
-use Rattle.executor_core.specs.declared.types.Event.{Event}
-use Rattle.executor_core.specs.declared.types.Answer.TheVariants as a
-use Rattle.executor_core.specs.declared.types.Line.{Line}
-use Rattle.executor_core.specs.declared.types.Message.{Message}
-use Rattle.executor_core.specs.declared.types.Message.TheVariants as m
-use Rattle.executor_core.specs.Counts.{IsWorkerCount}
+use Rattle.executor_model.specs.declared.types.Event.{Event}
+use Rattle.executor_model.specs.declared.types.Answer.TheVariants as a
+use Rattle.executor_model.specs.declared.types.Line.{Line}
+use Rattle.executor_model.specs.declared.types.Message.{Message}
+use Rattle.executor_model.specs.declared.types.Message.TheVariants as m
+use Rattle.executor_model.specs.Counts.{IsWorkerCount}
 use Rattle.executor_core.specs.CoreView.{workers_of, state_of, Steps, Stands, Continues, ErrorOnlyCounts}
-use Rattle.executor_core.specs.Flows.{part_of}
-use Rattle.executor_core.specs.Histories.{HistoryEntry, IsHistoryOf}
-use Rattle.executor_core.specs.Needs.{IsRipe}
-use Rattle.executor_core.specs.State.{view_of_state}
-use Rattle.executor_core.specs.Tasks.{word_of_task}
+use Rattle.executor_model.specs.Flows.{part_of}
+use Rattle.executor_model.specs.Histories.{HistoryEntry, IsHistoryOf}
+use Rattle.executor_model.specs.Needs.{IsRipe}
+use Rattle.executor_model.specs.State.{view_of_state}
+use Rattle.executor_model.specs.Tasks.{word_of_task}
 use Rattle.line_copy.specs.declared.copied.Copied.{Copied}
 use Rattle.line_copy.specs.Copying.{IsCopied}
 use Rattle.sched_engine.specs.Cores.{Opens}

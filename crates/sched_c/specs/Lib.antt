@@ -1,7 +1,7 @@
 pub use Rattle.executor_core.specs.CoreView
-pub use Rattle.executor_core.specs.Flows
-pub use Rattle.executor_core.specs.Histories
-pub use Rattle.executor_core.specs.Needs
+pub use Rattle.executor_model.specs.Flows
+pub use Rattle.executor_model.specs.Histories
+pub use Rattle.executor_model.specs.Needs
 pub use Rattle.line_copy.specs.Copying
 pub use Rattle.sched_engine.specs.Cores
 pub use Rattle.sched_engine.specs.Running

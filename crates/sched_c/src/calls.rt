@@ -1,6 +1,6 @@
 //! The calls, with the status of each.
 ghost use Rattle.std.specs.Prelude.{◌≡◌, ℕ, List, None};
-ghost use Rattle.executor_core.specs.declared.types.Event.TheVariants as events;
+ghost use Rattle.executor_model.specs.declared.types.Event.TheVariants as events;
 ghost use Rattle.sched_c.specs.Calls.{holding, Refuses, Makes, Frees, TakesEvent, RefusesWorker, TakesEventOf, Copies, Reads, ReadsTask, ReadsStart};
 
 use crate::fault::Fault;
@@ -9,7 +9,7 @@ use crate::slot::Slot;
 use crate::started::Started;
 use crate::state::{State, TaskState};
 use crate::status::Status;
-use executor_core::Event;
+use executor_model::Event;
 use line_copy::{Copied, put_lines};
 use plan_read::PlanFaultKind;
 use sched_engine::OpenError;

@@ -1,6 +1,6 @@
 //! What C calls.
 ghost use Rattle.std.specs.Prelude.{◌≡◌};
-ghost use Rattle.executor_core.specs.declared.types.Event.TheVariants as events;
+ghost use Rattle.executor_model.specs.declared.types.Event.TheVariants as events;
 ghost use Rattle.sched_time.specs.declared.timing.Ending.TheVariants as endings;
 ghost use Rattle.sched_c.specs.Calls.{holding, Answers, Makes, Frees, TakesEvent, TakesEventOf, Copies, Reads, ReadsTask, ReadsStart};
 
@@ -9,7 +9,7 @@ use crate::fault::Fault;
 use crate::slot::Slot;
 use crate::started::Started;
 use crate::state::{State, TaskState};
-use executor_core::Event;
+use executor_model::Event;
 use line_copy::Copied;
 use sched_time::Ending;
 use std::alloc::Global;

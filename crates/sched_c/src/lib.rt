@@ -21,7 +21,7 @@
 //!
 //! # Behaviour
 //!
-//! Each event of `executor_core` is one call. Its lines stand in the executor until the next event that is taken, and their
+//! Each event of `executor_model` is one call. Its lines stand in the executor until the next event that is taken, and their
 //! text is copied into the caller's buffer, whole lines at a time. So the library holds no text, takes no memory for it, and
 //! hands out no pointer that could be used too late. Which run a start got is told as numbers too.
 //!

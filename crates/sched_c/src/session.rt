@@ -2,14 +2,15 @@
 ghost use Rattle.std.specs.Prelude.{◌≡◌, ◌+◌, ◌^◌, ◌<◌, ◌≤◌, ◌↔◌, List, [], IfOk, IfErr, IsNone, IsTrue, false, map, slice_get};
 ghost use Rattle.executor_core.specs.CoreView.{workers_of, Steps, Stands, Continues, ErrorOnlyCounts};
 ghost use Rattle.queue_code.specs.Calls.{task_count};
-ghost use Rattle.executor_core.specs.Tasks.{word_of_task};
-ghost use Rattle.executor_core.specs.Flows.{part_of};
-ghost use Rattle.executor_core.specs.Histories.{HistoryEntry, IsHistoryOf};
+ghost use Rattle.executor_model.specs.Tasks.{word_of_task};
+ghost use Rattle.executor_model.specs.Flows.{part_of};
+ghost use Rattle.executor_model.specs.Histories.{HistoryEntry, IsHistoryOf};
 ghost use Rattle.sched_engine.specs.Cores.{Opens};
 ghost use Rattle.sched_c.specs.Calls.{Refuses};
 ghost use Rattle.sched_c.specs.own.Told.{IsToldAs};
 
-use executor_core::{Core, Event, Line};
+use executor_core::Core;
+use executor_model::{Event, Line};
 use sched_engine::{OpenError, core_of};
 use std::alloc::Global;
 use std::marker::Model;

@@ -2,7 +2,7 @@
 ghost use Rattle.std.specs.Prelude.{◌≡◌};
 ghost use Rattle.sched_c.specs.Calls.{last_start, no_start, start_in};
 
-use executor_core::{Answer, Line, Message};
+use executor_model::{Answer, Line, Message};
 
 /// A run that was started.
 #[repr(C)]

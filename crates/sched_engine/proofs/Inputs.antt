@@ -4,17 +4,18 @@ use Rattle.std.specs.Prelude.{replicate}
 use Rattle.std.proofs.Math.Seq.{drop-append_seam}
 use Rattle.std.proofs.lemmas.List.{drop-drop, length-replicate, take-append-le}
 use Rattle.std.proofs.lemmas.List.Elements.{All-nil, All-cons}
-use Rattle.executor_core.specs.declared.Event.{Event}
-use Rattle.executor_core.specs.declared.Event.TheVariants as v
-use Rattle.executor_core.specs.declared.Happening.{Happening}
-use Rattle.executor_core.specs.declared.Happening.TheVariants as h
-use Rattle.executor_core.specs.declared.Line.{Line}
+use Rattle.executor_model.specs.declared.Event.{Event}
+use Rattle.executor_model.specs.declared.Event.TheVariants as v
+use Rattle.executor_model.specs.declared.Happening.{Happening}
+use Rattle.executor_model.specs.declared.Happening.TheVariants as h
+use Rattle.executor_model.specs.declared.Line.{Line}
 use Rattle.queue_code.specs.Calls.{Planned, IsOrderly, IsPlanned}
-use Rattle.executor_core.specs.Histories.{HistoryEntry, happenings, made, now_of, IsHistoryOf}
-use Rattle.executor_core.specs.Flows.{flow, part_of, calls_before, history_from, history_of, lines_from, lines_of}
+use Rattle.executor_model.specs.Histories.{HistoryEntry, happenings, made, now_of, IsHistoryOf}
+use Rattle.executor_model.specs.Flows.{flow, part_of, calls_before, history_from, history_of, lines_from, lines_of}
 use Rattle.executor_core.specs.CoreView.{CoreView, state_of, workers_of, Stands, Continues}
 use Rattle.trace_text.proofs.Texts.{take_add}
-use Rattle.executor_core.proofs.Flowing.{flow_means, history_more, lines_follow, stands_agrees, made_past, made-calls, happenings_from}
+use Rattle.executor_model.proofs.Flowing.{flow_means, history_more, lines_follow, made_past, made-calls, happenings_from}
+use Rattle.executor_core.proofs.Continuing.{stands_agrees}
 use Rattle.trace_text.specs.Spelling.{event_line, FitsEvent, lines_text}
 use Rattle.sched_engine.specs.Inputs.{input_of}
 use Rattle.sched_engine.specs.Pieces.{Output}

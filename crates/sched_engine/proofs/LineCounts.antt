@@ -7,15 +7,15 @@ use Rattle.std.proofs.lemmas.List.FromFn.{length-range_with_len}
 use Rattle.std.proofs.lemmas.List.Sums.{length-filter, count_by-le-length}
 use Rattle.queue_code.specs.declared.CodeCall.{CodeCall}
 use Rattle.queue_code.specs.Calls.{Planned, AreFew, submits_task, task_count, numbers}
-use Rattle.executor_core.specs.declared.Happening.{Happening}
-use Rattle.executor_core.specs.declared.Happening.TheVariants as h
-use Rattle.executor_core.specs.declared.Answer.TheVariants as a
-use Rattle.executor_core.specs.View.{View}
-use Rattle.executor_core.specs.Answers.{bare, called, reply}
-use Rattle.executor_core.specs.Histories.{HistoryEntry, happenings, made, now_of, is_call, view_of_history, IsHistoryOf}
-use Rattle.executor_core.specs.Flows.{end_line, lines_at, lines_of, reply_in}
-use Rattle.executor_core.proofs.Flowing.{how_many-le}
-use Rattle.executor_core.proofs.Replies.{call_ends_waiting}
+use Rattle.executor_model.specs.declared.Happening.{Happening}
+use Rattle.executor_model.specs.declared.Happening.TheVariants as h
+use Rattle.executor_model.specs.declared.Answer.TheVariants as a
+use Rattle.executor_model.specs.View.{View}
+use Rattle.executor_model.specs.Answers.{bare, called, reply}
+use Rattle.executor_model.specs.Histories.{HistoryEntry, happenings, made, now_of, is_call, view_of_history, IsHistoryOf}
+use Rattle.executor_model.specs.Flows.{end_line, lines_at, lines_of, reply_in}
+use Rattle.executor_model.proofs.Flowing.{how_many-le}
+use Rattle.executor_model.proofs.Replies.{call_ends_waiting}
 
 -- there are no more tasks than calls
 tasks_few : (calls : List Planned) → task_count calls ≤ length calls

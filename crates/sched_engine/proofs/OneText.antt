@@ -4,7 +4,7 @@ use Rattle.std.specs.Prelude.{flat_map}
 use Rattle.std.proofs.lemmas.List.{reverse-append}
 use Rattle.std.proofs.lemmas.List.Concat.{flat_map-append}
 use Rattle.std.proofs.lemmas.List.Elements.{All-append, All-cons, All-nil, All-head, All-tail}
-use Rattle.executor_core.specs.declared.Event.{Event}
+use Rattle.executor_model.specs.declared.Event.{Event}
 use Rattle.trace_text.specs.Spelling.{FitsEvent, event_line}
 use Rattle.sched_engine.specs.Inputs.{input_of, AreEvents, IsRefused, FrontIsOne, EventsAreOne}
 use Rattle.trace_text.proofs.EventTexts.{first_event}

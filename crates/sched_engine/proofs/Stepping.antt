@@ -2,15 +2,16 @@
 use Rattle.std.proofs.Common.{◌≡◌, ℕ, ◌+◌, ◌<◌, ◌≤◌, List, [], ◌++◌, ◌⊎◌, inl, inr, take, length, Option, refl, ap, ◌∙◌, sym, subst, arith, append-nil, length-append, take_all}
 use Rattle.std.specs.Io.KnownBytes.{Appends}
 use Rattle.std.proofs.lemmas.Bool.{cases_lt}
-use Rattle.executor_core.specs.declared.Event.{Event}
-use Rattle.executor_core.specs.declared.Happening.{Happening}
-use Rattle.executor_core.specs.declared.Line.{Line}
+use Rattle.executor_model.specs.declared.Event.{Event}
+use Rattle.executor_model.specs.declared.Happening.{Happening}
+use Rattle.executor_model.specs.declared.Line.{Line}
 use Rattle.queue_code.specs.Calls.{IsOrderly}
-use Rattle.executor_core.specs.Flows.{part_of, lines_from}
-use Rattle.executor_core.specs.State.{after_from}
+use Rattle.executor_model.specs.Flows.{part_of, lines_from}
+use Rattle.executor_model.specs.State.{after_from}
 use Rattle.executor_core.specs.CoreView.{CoreView, Counts, Steps, state_of, workers_of}
 use Rattle.executor_core.proofs.Events.{counted_once, uncounted}
-use Rattle.executor_core.proofs.Flowing.{core_continues, lines_from-append, no_steps, steps_then}
+use Rattle.executor_core.proofs.Continuing.{core_continues, no_steps, steps_then}
+use Rattle.executor_model.proofs.Flowing.{lines_from-append}
 use Rattle.trace_text.specs.Spelling.{lines_text}
 use Rattle.sched_engine.specs.Pieces.{Gives, Output}
 use Rattle.sched_engine.specs.own.Turns.{CutsSteps, GivesSteps, TakesEvent, answers_to}

@@ -2,11 +2,11 @@
 use Rattle.std.proofs.Common.{◌≡◌, ℕ, zero, suc, ◌+◌, ◌-◌, ◌*◌, ◌^◌, ◌<◌, ◌≤◌, List, [], ◌∷◌, ◌++◌, take, drop, length, Option, Some, None, Result, Ok, Err, MatchResult, inl, inr, refl, ap, ◌∙◌, sym, subst, arith, append_assoc, append-nil, length-append, length-drop, take-append-drop}
 use Rattle.std.proofs.lemmas.List.Elements.{All-append, All-cons, All-nil}
 use Rattle.std.specs.Io.KnownBytes.{Consumes, Appends, Keeps, IsAtEnd, prepend_known}
-use Rattle.executor_core.specs.declared.Event.{Event}
+use Rattle.executor_model.specs.declared.Event.{Event}
 use Rattle.queue_code.specs.Calls.{Planned, IsOrderly, IsPlanned}
-use Rattle.executor_core.specs.Flows.{history_of, lines_of, part_of}
+use Rattle.executor_model.specs.Flows.{history_of, lines_of, part_of}
 use Rattle.executor_core.specs.CoreView.{CoreView, workers_of, Stands}
-use Rattle.executor_core.proofs.Flowing.{flow_means}
+use Rattle.executor_model.proofs.Flowing.{flow_means}
 use Rattle.trace_text.specs.Spelling.{IsLine, event_line, lines_text, FitsEvent}
 use Rattle.sched_engine.specs.declared.report.Report.{Report}
 use Rattle.sched_engine.specs.declared.engine.Turn.{Turn}

@@ -1,7 +1,7 @@
 -- Inputs: the lines of events, and what is no such line.
 -- All of it is this project's rule.
 use Rattle.std.specs.Prelude.{◌≡◌, ℕ, List, [], ◌∷◌, ◌++◌, All}
-use Rattle.executor_core.specs.declared.Event.{Event}
+use Rattle.executor_model.specs.declared.Event.{Event}
 use Rattle.trace_text.specs.Spelling.{event_line, FitsEvent}
 use Rattle.trace_text.specs.Reading.{IsUnread}
 

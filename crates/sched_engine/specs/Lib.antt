@@ -3,8 +3,8 @@ pub use Rattle.byte_ends.specs.Refills
 pub use Rattle.queue_code.specs.Calls
 pub use Rattle.queue_code.specs.Codes
 pub use Rattle.queue_code.specs.Listings
-pub use Rattle.executor_core.specs.Histories
-pub use Rattle.executor_core.specs.Flows
+pub use Rattle.executor_model.specs.Histories
+pub use Rattle.executor_model.specs.Flows
 pub use Rattle.executor_core.specs.CoreView
 pub use Rattle.plan_read.specs.Plans
 pub use Rattle.plan_read.specs.Reads

@@ -2,11 +2,11 @@
 -- All of it is this project's rule.
 use Rattle.std.specs.Prelude.{◌≡◌, ℕ, ◌+◌, ◌<◌, ◌≤◌, List, [], ◌++◌, ◌⊎◌, Option, Some, Result, Ok, Err, IfSome, length, take}
 use Rattle.std.specs.Io.KnownBytes.{Appends, Consumes, IsAtEnd, Keeps}
-use Rattle.executor_core.specs.declared.Event.{Event}
-use Rattle.executor_core.specs.Counts.{IsWorkerCount}
+use Rattle.executor_model.specs.declared.Event.{Event}
+use Rattle.executor_model.specs.Counts.{IsWorkerCount}
 use Rattle.queue_code.specs.Calls.{Planned}
-use Rattle.executor_core.specs.Histories.{HistoryEntry, happenings, IsHistoryOf}
-use Rattle.executor_core.specs.Flows.{flow, lines_of}
+use Rattle.executor_model.specs.Histories.{HistoryEntry, happenings, IsHistoryOf}
+use Rattle.executor_model.specs.Flows.{flow, lines_of}
 use Rattle.sched_engine.specs.declared.report.Report.{Report}
 use Rattle.sched_engine.specs.declared.report.OpenError.{OpenError}
 use Rattle.sched_engine.specs.declared.report.OpenError.TheVariants as o

@@ -8,7 +8,8 @@ ghost use Rattle.sched_engine.specs.own.Turns.{IsAnswered, IsCut, IsPieceEnd, St
 use crate::draft::Draft;
 use crate::one_event::answer_event;
 use byte_ends::Sink;
-use executor_core::{Core, Line};
+use executor_core::Core;
+use executor_model::Line;
 use std::alloc::Allocator;
 use trace_text::{is_part, split_event};
 

@@ -6,7 +6,7 @@ ghost use Rattle.sched_engine.specs.Pieces.{GivesText};
 ghost use Rattle.sched_engine.specs.own.Pieces.{MakesRoom};
 
 use byte_ends::{PIECE, Sink, write_text};
-use executor_core::Line;
+use executor_model::Line;
 use std::alloc::{AllocError, Allocator};
 use std::marker::Model;
 use trace_text::{LINE_ROOM, Stamp, put_line, put_line_here};

@@ -2,15 +2,16 @@
 //! happens.
 ghost use Rattle.std.specs.Prelude.{◌≡◌, ◌+◌, ◌<◌, ◌≤◌, [], ◌∷◌, true, IfNone, IfSome, vec_capacity};
 ghost use Rattle.queue_code.specs.Calls.{IsOrderly};
-ghost use Rattle.executor_core.specs.Flows.{part_of};
-ghost use Rattle.executor_core.specs.Histories.{MayFrom, is_call};
+ghost use Rattle.executor_model.specs.Flows.{part_of};
+ghost use Rattle.executor_model.specs.Histories.{MayFrom, is_call};
 ghost use Rattle.executor_core.specs.CoreView.{IsCounted, Steps, room_of};
 ghost use Rattle.sched_engine.specs.own.Pieces.{CountsLines};
 ghost use Rattle.sched_engine.specs.own.Turns.{CutsSteps, GivesSteps, TakesEvent, answers_to};
 
 use crate::draft::Draft;
 use byte_ends::Sink;
-use executor_core::{Core, Event, Happening, Line};
+use executor_core::Core;
+use executor_model::{Event, Happening, Line};
 use std::alloc::Allocator;
 
 /// Takes an event and gives out the text of its lines: first, for a clock, that of each call that it reaches. So no more lines

@@ -2,7 +2,7 @@
 use Rattle.std.proofs.Common.{◌≡◌, ℕ, zero, suc, ◌+◌, ◌≤◌, ◌==◌, ◌||◌, Bool, true, false, cond, inl, inr, List, [], ◌∷◌, refl, sym, ap, ◌∙◌, arith}
 use Rattle.std.specs.List.{filter, range_with_len}
 use Rattle.std.proofs.lemmas.Bool.{false≢true, eqb-true, eq-eqb, or_cases, or_left, false_from_ne_true}
-use Rattle.executor_core.specs.Histories.{is_end}
+use Rattle.executor_model.specs.Histories.{is_end}
 use Rattle.task_table.specs.Ends.{IsAscending}
 
 -- two tests that each follow from the other agree

@@ -6,23 +6,23 @@ use Rattle.std.proofs.lemmas.Bool.{false≢true, or_left}
 use Rattle.std.proofs.lemmas.Option.{none-some}
 use Rattle.queue_code.specs.declared.call.CodeCall.TheVariants as c
 use Rattle.queue_code.specs.Calls.{Planned, terms_of, task_count, how_many}
-use Rattle.executor_core.specs.declared.types.Answer.TheVariants as a
-use Rattle.executor_core.specs.declared.task.Stage.{Stage}
-use Rattle.executor_core.specs.declared.task.Stage.TheVariants as ph
-use Rattle.executor_core.specs.declared.task.Task.{Task}
-use Rattle.executor_core.specs.View.{is_running}
-use Rattle.executor_core.specs.Answers.{bare, is_queued, queue_size, running_count, is_terminated}
-use Rattle.executor_core.specs.State.{State, vacant, view_of_state, seen_task}
-use Rattle.executor_core.specs.own.Tables.{is_running_phase}
-use Rattle.executor_core.proofs.Asking.{seen_runs, seen_waits}
-use Rattle.executor_core.proofs.Keeping.{kept_stays}
+use Rattle.executor_model.specs.declared.types.Answer.TheVariants as a
+use Rattle.executor_model.specs.declared.task.Stage.{Stage}
+use Rattle.executor_model.specs.declared.task.Stage.TheVariants as ph
+use Rattle.executor_model.specs.declared.task.Task.{Task}
+use Rattle.executor_model.specs.View.{is_running}
+use Rattle.executor_model.specs.Answers.{bare, is_queued, queue_size, running_count, is_terminated}
+use Rattle.executor_model.specs.State.{State, vacant, view_of_state, seen_task}
+use Rattle.executor_model.specs.own.Phases.{is_running_phase}
+use Rattle.executor_model.proofs.Seen.{seen_runs, seen_waits}
+use Rattle.executor_model.proofs.Keeping.{kept_stays}
 use Rattle.task_table.specs.declared.seat.Seat.{Seat}
 use Rattle.task_table.specs.Seats.{task_in, slot_of, waits, is_running_in}
 use Rattle.task_table.specs.Tables.{TableView, WorkIs, Shows, CallSteps}
 use Rattle.task_table.specs.Firsts.{stands_in_queue, queue_in}
 use Rattle.task_table.specs.Changes.{at_moment}
 use Rattle.task_table.specs.own.Formed.{IsFormed}
-use Rattle.task_table.proofs.Slots.{slot_within}
+use Rattle.task_table.proofs.Written.{slot_within}
 use Rattle.task_table.proofs.Standing.{Known}
 use Rattle.task_table.proofs.Knowing.{known_number}
 use Rattle.task_table.proofs.Sweeps.{waits_alike}

@@ -5,25 +5,25 @@ use Rattle.std.proofs.Math.Nat.{lt_of_not-le}
 use Rattle.std.proofs.lemmas.Bool.{eq-eqb, lt-ltb}
 use Rattle.sched_time.specs.declared.policies.Policies.{Policies}
 use Rattle.queue_code.specs.declared.call.CodeCall.TheVariants as c
-use Rattle.executor_core.specs.declared.types.CancelEffect.{CancelEffect}
-use Rattle.executor_core.specs.declared.types.CancelEffect.TheVariants as f
-use Rattle.executor_core.specs.declared.types.EventError.TheVariants as x
-use Rattle.executor_core.specs.declared.types.Happening.TheVariants as h
-use Rattle.executor_core.specs.declared.types.Answer.TheVariants as a
-use Rattle.executor_core.specs.declared.task.Stage.{Stage}
-use Rattle.executor_core.specs.declared.task.Stage.TheVariants as ph
-use Rattle.executor_core.specs.declared.task.Task.{Task}
+use Rattle.executor_model.specs.declared.types.CancelEffect.{CancelEffect}
+use Rattle.executor_model.specs.declared.types.CancelEffect.TheVariants as f
+use Rattle.executor_model.specs.declared.types.EventError.TheVariants as x
+use Rattle.executor_model.specs.declared.types.Happening.TheVariants as h
+use Rattle.executor_model.specs.declared.types.Answer.TheVariants as a
+use Rattle.executor_model.specs.declared.task.Stage.{Stage}
+use Rattle.executor_model.specs.declared.task.Stage.TheVariants as ph
+use Rattle.executor_model.specs.declared.task.Task.{Task}
 use Rattle.queue_code.specs.Calls.{Planned, Terms, terms_of, task_count, submits_task}
-use Rattle.executor_core.specs.View.{is_waiting}
-use Rattle.executor_core.specs.Answers.{bare, effect_on}
-use Rattle.executor_core.specs.Histories.{HistoryEntry, happenings, is_cancel, had_effect}
-use Rattle.executor_core.specs.State.{State, after, view_of_state, seen_task, reply_of, task_after}
-use Rattle.executor_core.specs.own.Tables.{is_waiting_phase, waits_with}
-use Rattle.executor_core.specs.own.Invariants.{IsSound}
-use Rattle.executor_core.proofs.Agree.{after_agrees}
-use Rattle.executor_core.proofs.Asking.{seen_waits}
-use Rattle.executor_core.proofs.Cancels.{of_waiting, of_running, of_cancelled, of_done, of_failed}
-use Rattle.executor_core.proofs.Keeping.{kept_stays}
+use Rattle.executor_model.specs.View.{is_waiting}
+use Rattle.executor_model.specs.Answers.{bare, effect_on}
+use Rattle.executor_model.specs.Histories.{HistoryEntry, happenings, is_cancel, had_effect}
+use Rattle.executor_model.specs.State.{State, after, view_of_state, seen_task, reply_of, task_after}
+use Rattle.executor_model.specs.own.Phases.{is_waiting_phase, waits_with}
+use Rattle.executor_model.specs.own.Soundness.{IsSound}
+use Rattle.executor_model.proofs.Agree.{after_agrees}
+use Rattle.executor_model.proofs.Seen.{seen_waits}
+use Rattle.executor_model.proofs.Effects.{of_waiting, of_running, of_cancelled, of_done, of_failed}
+use Rattle.executor_model.proofs.Keeping.{kept_stays}
 use Rattle.task_table.specs.declared.seat.Seat.{Seat}
 use Rattle.task_table.specs.Seats.{task_in, slot_of, is_waiting_in, is_running_in}
 use Rattle.task_table.specs.Tables.{TableView, workers_of, Shows, Stands, Takes, EventSteps, CallSteps}

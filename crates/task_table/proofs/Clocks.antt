@@ -5,18 +5,18 @@ use Rattle.std.specs.Option.{option_map_or}
 use Rattle.std.proofs.lemmas.Bool.{and_parts, leb-true, le-ltb, lt-ltb}
 use Rattle.std.proofs.lemmas.Bool.Decides.{nat_tests}
 use Rattle.sched_time.specs.Times.{longest}
-use Rattle.executor_core.specs.declared.types.Happening.{Happening}
-use Rattle.executor_core.specs.declared.types.Happening.TheVariants as h
-use Rattle.executor_core.specs.declared.types.EventError.{EventError}
-use Rattle.executor_core.specs.declared.types.EventError.TheVariants as x
-use Rattle.executor_core.specs.declared.types.Answer.TheVariants as a
+use Rattle.executor_model.specs.declared.types.Happening.{Happening}
+use Rattle.executor_model.specs.declared.types.Happening.TheVariants as h
+use Rattle.executor_model.specs.declared.types.EventError.{EventError}
+use Rattle.executor_model.specs.declared.types.EventError.TheVariants as x
+use Rattle.executor_model.specs.declared.types.Answer.TheVariants as a
 use Rattle.queue_code.specs.Calls.{Planned, numbers}
-use Rattle.executor_core.specs.View.{first_enabled}
-use Rattle.executor_core.specs.Answers.{Reply, bare, is_accepted, start_answer}
-use Rattle.executor_core.specs.Histories.{happenings}
-use Rattle.executor_core.specs.State.{State, after, reply_of, state_after, view_of_state}
-use Rattle.executor_core.proofs.Errors.{errors_change_nothing}
-use Rattle.executor_core.proofs.Keeping.{kept_stays}
+use Rattle.executor_model.specs.View.{first_enabled}
+use Rattle.executor_model.specs.Answers.{Reply, bare, is_accepted, start_answer}
+use Rattle.executor_model.specs.Histories.{happenings}
+use Rattle.executor_model.specs.State.{State, after, reply_of, state_after, view_of_state}
+use Rattle.executor_model.proofs.Errors.{errors_change_nothing}
+use Rattle.executor_model.proofs.Keeping.{kept_stays}
 use Rattle.task_table.specs.Tables.{TableView, workers_of, WorkIs, Shows, EventSteps}
 use Rattle.task_table.specs.Changes.{at_moment}
 use Rattle.task_table.specs.Runs.{IsStartError}

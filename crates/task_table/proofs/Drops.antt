@@ -2,21 +2,21 @@
 use Rattle.std.proofs.Common.{◌≡◌, ℕ, ◌<◌, ◌==◌, ◌&&◌, ◌||◌, not, Bool, true, false, List, Option, Some, None, refl, sym, ap, ◌∙◌, subst}
 use Rattle.std.specs.Prelude.{slice_index_or}
 use Rattle.std.proofs.lemmas.Bool.{eq-eqb, and_parts, and_right}
-use Rattle.executor_core.specs.declared.types.Happening.TheVariants as h
-use Rattle.executor_core.specs.declared.types.Answer.{Answer}
-use Rattle.executor_core.specs.declared.task.Task.{Task}
+use Rattle.executor_model.specs.declared.types.Happening.TheVariants as h
+use Rattle.executor_model.specs.declared.types.Answer.{Answer}
+use Rattle.executor_model.specs.declared.task.Task.{Task}
 use Rattle.queue_code.specs.Calls.{Planned}
-use Rattle.executor_core.specs.View.{View, is_waiting}
-use Rattle.executor_core.specs.Answers.{Reply, reply, bare}
-use Rattle.executor_core.specs.Histories.{HistoryEntry, happenings, view_of_history, answer, is_sweep, is_cancel, meets, kept_after}
-use Rattle.executor_core.specs.State.{State, after, view_of_state, reply_of}
+use Rattle.executor_model.specs.View.{View, is_waiting}
+use Rattle.executor_model.specs.Answers.{Reply, reply, bare}
+use Rattle.executor_model.specs.Histories.{HistoryEntry, happenings, view_of_history, answer, is_sweep, is_cancel, meets, kept_after}
+use Rattle.executor_model.specs.State.{State, after, view_of_state, reply_of}
 use Rattle.task_table.specs.declared.seat.Seat.{Seat}
 use Rattle.task_table.specs.Seats.{task_in, slot_of}
 use Rattle.task_table.specs.Tables.{TableView, workers_of, Shows, keeping, StandsBefore}
 use Rattle.task_table.specs.Firsts.{FirstIs, is_met}
 use Rattle.task_table.specs.Changes.{put, unkept}
 use Rattle.task_table.specs.own.Formed.{IsFormed}
-use Rattle.task_table.proofs.Slots.{by_eqb, Writes, set_writes, slot_within, ChangesOne, holds_put, knows_put}
+use Rattle.task_table.proofs.Written.{by_eqb, Writes, set_writes, slot_within, ChangesOne, holds_put, knows_put}
 use Rattle.task_table.proofs.Standing.{Known, view_there}
 use Rattle.task_table.proofs.Knowing.{known}
 use Rattle.task_table.proofs.Firsts.{start_gets, start_said, start_meets}

@@ -5,28 +5,28 @@ use Rattle.std.proofs.lemmas.Bool.{eq-eqb, lt-ltb, le-ltb, false_from_ne_true}
 use Rattle.std.proofs.lemmas.List.{length-set}
 use Rattle.std.proofs.lemmas.Option.{same_Some}
 use Rattle.sched_time.specs.declared.timing.Ending.{Ending}
-use Rattle.executor_core.specs.declared.types.EventError.{EventError}
-use Rattle.executor_core.specs.declared.types.EventError.TheVariants as x
+use Rattle.executor_model.specs.declared.types.EventError.{EventError}
+use Rattle.executor_model.specs.declared.types.EventError.TheVariants as x
 use Rattle.task_table.specs.Runs.{IsFinishError, IsLeft}
-use Rattle.executor_core.specs.declared.types.Happening.TheVariants as h
-use Rattle.executor_core.specs.declared.types.Outcome.{Outcome}
-use Rattle.executor_core.specs.declared.types.Outcome.TheVariants as o
-use Rattle.executor_core.specs.declared.types.Answer.TheVariants as a
-use Rattle.executor_core.specs.declared.task.Stage.TheVariants as ph
-use Rattle.executor_core.specs.declared.task.Task.{Task}
+use Rattle.executor_model.specs.declared.types.Happening.TheVariants as h
+use Rattle.executor_model.specs.declared.types.Outcome.{Outcome}
+use Rattle.executor_model.specs.declared.types.Outcome.TheVariants as o
+use Rattle.executor_model.specs.declared.types.Answer.TheVariants as a
+use Rattle.executor_model.specs.declared.task.Stage.TheVariants as ph
+use Rattle.executor_model.specs.declared.task.Task.{Task}
 use Rattle.queue_code.specs.Calls.{Planned, terms_of}
-use Rattle.executor_core.specs.Answers.{bare, finish_answer, outcome_in, stops_periodic}
-use Rattle.executor_core.specs.Histories.{HistoryEntry, happenings, is_ended, work_after}
-use Rattle.executor_core.specs.State.{State, after, view_of_state, state_after, task_after, finish_task, end_task, due_past}
-use Rattle.executor_core.proofs.Keeping.{kept_stays}
-use Rattle.executor_core.proofs.Tables.{at_set}
-use Rattle.executor_core.proofs.WorkerSteps.{task_finishes}
+use Rattle.executor_model.specs.Answers.{bare, finish_answer, outcome_in, stops_periodic}
+use Rattle.executor_model.specs.Histories.{HistoryEntry, happenings, is_ended, work_after}
+use Rattle.executor_model.specs.State.{State, after, view_of_state, state_after, task_after, finish_task, end_task, due_past}
+use Rattle.executor_model.proofs.Keeping.{kept_stays}
+use Rattle.executor_model.proofs.Tables.{at_set}
+use Rattle.executor_model.proofs.Workers.{task_finishes}
 use Rattle.task_table.specs.declared.seat.Seat.{Seat}
 use Rattle.task_table.specs.Seats.{task_in, slot_of}
 use Rattle.task_table.specs.Tables.{TableView, workers_of, WorkIs, Shows, Stands, Takes, EventSteps}
 use Rattle.task_table.specs.Changes.{put, ended, finished}
 use Rattle.task_table.specs.own.Formed.{IsFormed}
-use Rattle.task_table.proofs.Slots.{ChangesOne}
+use Rattle.task_table.proofs.Written.{ChangesOne}
 use Rattle.task_table.proofs.Standing.{Known, takes}
 use Rattle.task_table.proofs.Knowing.{known}
 use Rattle.task_table.proofs.Shown.{takes_error, put_shown}

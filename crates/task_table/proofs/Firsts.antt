@@ -4,27 +4,27 @@ use Rattle.std.specs.Prelude.{slice_index_or}
 use Rattle.std.proofs.lemmas.Bool.{false≢true, and_parts, and_from, not-true, le-leb, leb-true, leb-false, lt-ltb}
 use Rattle.std.proofs.lemmas.Option.{same_Some}
 use Rattle.delay_queue.specs.Queues.{comes_before}
-use Rattle.executor_core.specs.declared.types.Happening.TheVariants as h
-use Rattle.executor_core.specs.declared.types.Answer.{Answer}
-use Rattle.executor_core.specs.declared.types.Answer.TheVariants as a
-use Rattle.executor_core.specs.declared.task.Stage.{Stage}
-use Rattle.executor_core.specs.declared.task.Stage.TheVariants as ph
-use Rattle.executor_core.specs.declared.task.Task.{Task}
+use Rattle.executor_model.specs.declared.types.Happening.TheVariants as h
+use Rattle.executor_model.specs.declared.types.Answer.{Answer}
+use Rattle.executor_model.specs.declared.types.Answer.TheVariants as a
+use Rattle.executor_model.specs.declared.task.Stage.{Stage}
+use Rattle.executor_model.specs.declared.task.Stage.TheVariants as ph
+use Rattle.executor_model.specs.declared.task.Task.{Task}
 use Rattle.queue_code.specs.Calls.{Planned, terms_of, task_count, submits_task, numbers}
-use Rattle.executor_core.specs.View.{View, is_waiting, is_enabled, first_enabled}
-use Rattle.executor_core.specs.Answers.{bare}
-use Rattle.executor_core.specs.Histories.{meets}
-use Rattle.executor_core.specs.State.{State, view_of_state, seen_phase, starts_of, due_seen, reply_of}
-use Rattle.executor_core.specs.own.Invariants.{IsSound}
-use Rattle.executor_core.proofs.Sound.{is_seen_waiting, enabled_in}
-use Rattle.executor_core.proofs.First.{first_is, first_is_none, in_range}
+use Rattle.executor_model.specs.View.{View, is_waiting, is_enabled, first_enabled}
+use Rattle.executor_model.specs.Answers.{bare}
+use Rattle.executor_model.specs.Histories.{meets}
+use Rattle.executor_model.specs.State.{State, view_of_state, seen_phase, starts_of, due_seen, reply_of}
+use Rattle.executor_model.specs.own.Soundness.{IsSound}
+use Rattle.executor_model.proofs.Sound.{is_seen_waiting, enabled_in}
+use Rattle.executor_model.proofs.First.{first_is, first_is_none, in_range}
 use Rattle.task_table.specs.declared.seat.Seat.{Seat}
 use Rattle.task_table.specs.Seats.{task_in, slot_of, is_waiting_in, is_running_in, waits, is_alive}
 use Rattle.task_table.specs.Tables.{TableView, workers_of, WorkIs, Shows, keeping}
 use Rattle.task_table.specs.Firsts.{IsFirstDue, FirstIs, is_met}
 use Rattle.task_table.specs.Changes.{put, unkept}
 use Rattle.task_table.specs.own.Formed.{IsFormed}
-use Rattle.task_table.proofs.Slots.{apart_eqb, Writes, set_writes, slot_within, read_slot}
+use Rattle.task_table.proofs.Written.{apart_eqb, Writes, set_writes, slot_within, read_slot}
 use Rattle.task_table.proofs.Standing.{Known}
 use Rattle.task_table.proofs.Clocks.{start_reply}
 

@@ -10,17 +10,17 @@ use Rattle.sched_time.specs.Policies.{default_policies}
 use Rattle.sched_time.specs.declared.timing.Timing.{Timing}
 use Rattle.sched_time.specs.declared.policies.Policies.{Policies}
 use Rattle.queue_code.specs.Calls.{IsTimed}
-use Rattle.executor_core.specs.Counts.{most_workers}
-use Rattle.executor_core.specs.State.{opening}
-use Rattle.executor_core.specs.declared.task.Stage.TheVariants as ph
-use Rattle.executor_core.proofs.Tables.{at_set, at_replicate}
+use Rattle.executor_model.specs.Counts.{most_workers}
+use Rattle.executor_model.specs.State.{opening}
+use Rattle.executor_model.specs.declared.task.Stage.TheVariants as ph
+use Rattle.executor_model.proofs.Tables.{at_set, at_replicate}
 use Rattle.task_table.specs.declared.seat.Seat.{Seat}
 use Rattle.task_table.specs.Seats.{task_in, slot_of, is_alive, is_running_in, waits, IsNew}
 use Rattle.task_table.specs.Tables.{TableView, Shows, WorkIs}
 use Rattle.task_table.specs.Ends.{is_swept}
 use Rattle.task_table.specs.Changes.{submitted, at_moment, admitted, emptied, grown, swept, after_sweep}
 use Rattle.task_table.specs.own.Formed.{IsSeated, IsFormed}
-use Rattle.task_table.proofs.Slots.{by_eqb, Writes, set_writes, slot_within, read_slot}
+use Rattle.task_table.proofs.Written.{by_eqb, Writes, set_writes, slot_within, read_slot}
 
 -- what is seated at a moment is at a later one
 pub seated_later : (moment later : ℕ) (x : Seat) → moment ≤ later → IsSeated moment x → IsSeated later x

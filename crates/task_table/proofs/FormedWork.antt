@@ -11,21 +11,21 @@ use Rattle.sched_time.specs.declared.timing.Timing.TheVariants as t
 use Rattle.sched_time.specs.declared.timing.Ending.{Ending}
 use Rattle.sched_time.specs.declared.timing.Ending.TheVariants as e
 use Rattle.queue_code.specs.Calls.{IsTimed}
-use Rattle.executor_core.specs.declared.types.CancelEffect.TheVariants as effect
-use Rattle.executor_core.specs.declared.types.Outcome.{Outcome}
-use Rattle.executor_core.specs.declared.types.Outcome.TheVariants as o
-use Rattle.executor_core.specs.declared.task.Stage.{Stage}
-use Rattle.executor_core.specs.declared.task.Stage.TheVariants as ph
-use Rattle.executor_core.specs.Answers.{outcome_in}
-use Rattle.executor_core.specs.State.{due_past}
-use Rattle.executor_core.proofs.Tables.{at_set}
+use Rattle.executor_model.specs.declared.types.CancelEffect.TheVariants as effect
+use Rattle.executor_model.specs.declared.types.Outcome.{Outcome}
+use Rattle.executor_model.specs.declared.types.Outcome.TheVariants as o
+use Rattle.executor_model.specs.declared.task.Stage.{Stage}
+use Rattle.executor_model.specs.declared.task.Stage.TheVariants as ph
+use Rattle.executor_model.specs.Answers.{outcome_in}
+use Rattle.executor_model.specs.State.{due_past}
+use Rattle.executor_model.proofs.Tables.{at_set}
 use Rattle.task_table.specs.declared.seat.Seat.{Seat}
 use Rattle.task_table.specs.Seats.{slot_of, is_waiting_in, is_running_in}
 use Rattle.task_table.specs.Tables.{TableView, workers_of}
 use Rattle.task_table.specs.Firsts.{IsFirstDue}
 use Rattle.task_table.specs.Changes.{put, begun, started, ended, finished, cancelled, cancel_by, cancel_in, unkept}
 use Rattle.task_table.specs.own.Formed.{IsSeated, IsFormed}
-use Rattle.task_table.proofs.Slots.{by_eqb, set_writes, slot_within, read_slot, apart_put}
+use Rattle.task_table.proofs.Written.{by_eqb, set_writes, slot_within, read_slot, apart_put}
 
 -- a task in this phase waits
 pub waiting_phase : (phase : Stage) → is_waiting_in phase ≡ true → phase ≡ ph.Waiting

@@ -3,20 +3,20 @@ use Rattle.std.proofs.Common.{◌≡◌, ℕ, ◌+◌, ◌<◌, ◌≤◌, ◌&&
 use Rattle.std.specs.Prelude.{not}
 use Rattle.std.proofs.lemmas.Bool.{false≢true, false_from_ne_true}
 use Rattle.queue_code.specs.declared.call.CodeCall.TheVariants as c
-use Rattle.executor_core.specs.declared.types.CancelEffect.{CancelEffect}
-use Rattle.executor_core.specs.declared.types.EventError.TheVariants as x
-use Rattle.executor_core.specs.declared.types.Happening.TheVariants as h
-use Rattle.executor_core.specs.declared.types.Answer.TheVariants as a
-use Rattle.executor_core.specs.declared.task.Stage.{Stage}
-use Rattle.executor_core.specs.declared.task.Stage.TheVariants as ph
-use Rattle.executor_core.specs.declared.task.Task.{Task}
+use Rattle.executor_model.specs.declared.types.CancelEffect.{CancelEffect}
+use Rattle.executor_model.specs.declared.types.EventError.TheVariants as x
+use Rattle.executor_model.specs.declared.types.Happening.TheVariants as h
+use Rattle.executor_model.specs.declared.types.Answer.TheVariants as a
+use Rattle.executor_model.specs.declared.task.Stage.{Stage}
+use Rattle.executor_model.specs.declared.task.Stage.TheVariants as ph
+use Rattle.executor_model.specs.declared.task.Task.{Task}
 use Rattle.queue_code.specs.Calls.{Planned, Terms, terms_of, task_count}
-use Rattle.executor_core.specs.Answers.{bare, effect_on}
-use Rattle.executor_core.specs.Histories.{HistoryEntry, happenings, had_effect}
-use Rattle.executor_core.specs.State.{State, after, seen_task, task_after}
-use Rattle.executor_core.specs.own.Invariants.{IsSound}
-use Rattle.executor_core.proofs.Agree.{after_agrees}
-use Rattle.executor_core.proofs.Cancels.{of_vacant, of_cancelled, of_done, of_failed, no_task_reply}
+use Rattle.executor_model.specs.Answers.{bare, effect_on}
+use Rattle.executor_model.specs.Histories.{HistoryEntry, happenings, had_effect}
+use Rattle.executor_model.specs.State.{State, after, seen_task, task_after}
+use Rattle.executor_model.specs.own.Soundness.{IsSound}
+use Rattle.executor_model.proofs.Agree.{after_agrees}
+use Rattle.executor_model.proofs.Effects.{of_vacant, of_cancelled, of_done, of_failed, no_task_reply}
 use Rattle.task_table.specs.Seats.{is_alive, is_waiting_in, is_running_in, IsNew}
 use Rattle.task_table.specs.Tables.{TableView, workers_of, Shows, Stands, Takes, IsNextCall}
 use Rattle.task_table.specs.Ends.{effect_gone}

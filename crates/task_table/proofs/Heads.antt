@@ -9,7 +9,8 @@ use Rattle.task_table.specs.Seats.{task_in, slot_of, waits}
 use Rattle.task_table.specs.Tables.{TableView}
 use Rattle.task_table.specs.Firsts.{IsFirstDue, NoneDue, is_met, MeetsNone, NoneKept}
 use Rattle.task_table.specs.own.Formed.{IsFormed}
-use Rattle.task_table.specs.own.Queues.{Queues, key_where, queued_key, kept_key, IsLeastKey}
+use Rattle.task_table.specs.Orders.{IsLeastKey}
+use Rattle.task_table.specs.own.Queues.{Queues, key_where, queued_key, kept_key}
 
 -- of two entries of which the second does not come before the first, the first comes before the second, or they are of one number
 either : (due number later other : ℕ) → comes_before later other due number ≡ false → (other ≡ number) ⊎ (comes_before due number later other ≡ true)

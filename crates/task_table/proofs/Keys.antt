@@ -8,8 +8,8 @@ use Rattle.delay_queue.specs.Queues.{comes_before}
 use Rattle.slot_queue.specs.Entries.{Key}
 use Rattle.slot_queue.specs.Entries as entries
 use Rattle.slot_queue.specs.Queues.{key_in, IsLeast, IsEmpty}
-use Rattle.executor_core.proofs.Tables.{at_set, at_replicate}
-use Rattle.task_table.specs.own.Queues.{with_key, pair_of, keys, IsLeastKey}
+use Rattle.executor_model.proofs.Tables.{at_set, at_replicate}
+use Rattle.task_table.specs.Orders.{pair_of, keys, with_key, IsLeastKey}
 
 -- one slot has another entry, or none
 pub keys_set : (entries : List (Option Key)) (slot : ℕ) (key : Option Key) (i : ℕ) → slot < length entries → with_key (keys entries) slot (option_map pair_of key) i ≡ keys (set entries slot key) i

@@ -3,23 +3,23 @@ use Rattle.std.proofs.Common.{◌≡◌, ◌≢◌, ℕ, ◌+◌, ◌<◌, ◌�
 use Rattle.std.proofs.lemmas.Bool.{eqb-true, false_from_ne_true, leb-true}
 use Rattle.std.proofs.lemmas.Bool.Decides.{nat_tests}
 use Rattle.queue_code.specs.Calls.{Planned, IsOrderly, Terms, task_count, terms_of, submits_task}
-use Rattle.executor_core.specs.declared.types.Happening.{Happening}
-use Rattle.executor_core.specs.declared.types.Happening.TheVariants as h
-use Rattle.executor_core.specs.declared.types.Answer.{Answer}
-use Rattle.executor_core.specs.declared.types.Answer.TheVariants as a
-use Rattle.executor_core.specs.declared.types.Outcome.{Outcome}
-use Rattle.executor_core.specs.declared.types.Outcome.TheVariants as o
-use Rattle.executor_core.specs.declared.task.Stage.{Stage}
-use Rattle.executor_core.specs.declared.task.Stage.TheVariants as ph
-use Rattle.executor_core.specs.declared.task.Task.{Task}
-use Rattle.executor_core.specs.Histories.{HistoryEntry, happenings, made, made_after, is_call, IsHistoryOf}
-use Rattle.executor_core.specs.State.{State, vacant, after, next, reply_of, move_task, submit_phase, finish_task, end_task, due_past}
-use Rattle.executor_core.specs.own.Invariants.{IsDue, TimingsAgree}
-use Rattle.executor_core.proofs.Moves.{Fits}
-use Rattle.executor_core.proofs.Sound.{reply_finds, fits_all}
-use Rattle.executor_core.proofs.Agree.{after_agrees}
-use Rattle.executor_core.proofs.Views.{look_is_due}
-use Rattle.executor_core.proofs.Tables.{submission, count_grows}
+use Rattle.executor_model.specs.declared.types.Happening.{Happening}
+use Rattle.executor_model.specs.declared.types.Happening.TheVariants as h
+use Rattle.executor_model.specs.declared.types.Answer.{Answer}
+use Rattle.executor_model.specs.declared.types.Answer.TheVariants as a
+use Rattle.executor_model.specs.declared.types.Outcome.{Outcome}
+use Rattle.executor_model.specs.declared.types.Outcome.TheVariants as o
+use Rattle.executor_model.specs.declared.task.Stage.{Stage}
+use Rattle.executor_model.specs.declared.task.Stage.TheVariants as ph
+use Rattle.executor_model.specs.declared.task.Task.{Task}
+use Rattle.executor_model.specs.Histories.{HistoryEntry, happenings, made, made_after, is_call, IsHistoryOf}
+use Rattle.executor_model.specs.State.{State, vacant, after, next, reply_of, move_task, submit_phase, finish_task, end_task, due_past}
+use Rattle.executor_model.specs.own.Soundness.{IsDue, TimingsAgree}
+use Rattle.executor_model.proofs.Moves.{Fits}
+use Rattle.executor_model.proofs.Sound.{reply_finds, fits_all}
+use Rattle.executor_model.proofs.Agree.{after_agrees}
+use Rattle.executor_model.proofs.Views.{look_is_due}
+use Rattle.executor_model.proofs.Tables.{submission, count_grows}
 use Rattle.task_table.proofs.Standing.{Known, made_there, view_there}
 use Rattle.task_table.proofs.Vacancy.{NextIsOther, still_vacant}
 

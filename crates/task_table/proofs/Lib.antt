@@ -1,4 +1,4 @@
-pub mod Slots
+pub mod Written
 pub mod Standing
 pub mod Vacancy
 pub mod Knowing
@@ -29,3 +29,4 @@ pub mod Meeting
 pub mod Queuing
 pub mod Finding
 pub mod Sorting
+pub mod Spent

@@ -13,73 +13,69 @@ use Rattle.task_table.specs.Firsts.{IsFirstDue, NoneDue, FirstIs, MeetsNone, Non
 use Rattle.task_table.specs.Changes.{put, unkept}
 use Rattle.task_table.specs.Runs.{Drops, IsFull}
 use Rattle.task_table.specs.own.Formed.{IsFormed, IsSeated}
-use Rattle.task_table.specs.own.Queues.{keys, IsTable}
+use Rattle.task_table.specs.Orders.{IsLeastKey}
+use Rattle.task_table.specs.own.Queues.{IsTable}
 use Rattle.task_table.specs.own.Heads.{HeadsQueue, HeadsKept, IsMetBy}
-use Rattle.slot_queue.specs.Entries.{Key}
-use Rattle.slot_queue.specs.Queues.{IsLeast, IsEmpty}
-use Rattle.task_table.proofs.Keys.{keys_least, keys_empty}
 use Rattle.task_table.proofs.Heads.{waits_at, stays_at, entry_at, first_due, least_not_due, none_due, least_unmet, none_kept}
 
 -- ---- the least entries
 
 -- the least entry of the tasks that wait, where it is due
-pub heads_queue : (m : TableView) (entries kept : List (Option Key)) (key : Key) (slot : ℕ) → IsTable m entries kept → IsLeast entries key slot → key.due ≤ m.moment → HeadsQueue m slot key.due key.rank
-heads_queue m entries kept key slot t least reached =
-    let is = keys_least entries key slot least in
-    let at = waits_at m (keys entries) (keys kept) slot key.due key.rank t.queues is.there in
-    record { task = at.x; first = first_due m (keys entries) (keys kept) slot key.due key.rank at.x t.formed t.queues is at.there reached; dues = at.dues; named = at.named }
+pub heads_queue : {a : ℕ → ℕ → Bool} {r : ℕ → Bool} {room spare : ℕ} (m : TableView) (entries kept : ℕ → Option (ℕ × ℕ)) (slot due number : ℕ) → IsTable a r m entries kept room spare → IsLeastKey entries slot due number → due ≤ m.moment →
+    HeadsQueue m slot due number
+heads_queue m entries kept slot due number t is reached =
+    let at = waits_at m entries kept slot due number t.queues is.there in
+    record { task = at.x; first = first_due m entries kept slot due number at.x t.formed t.queues is at.there reached; dues = at.dues; named = at.named }
 
 -- where it is not due
-pub heads_later : (m : TableView) (entries kept : List (Option Key)) (key : Key) (slot : ℕ) → IsTable m entries kept → IsLeast entries key slot → m.moment < key.due → NoneDue m
-heads_later m entries kept key slot t least ahead = least_not_due m (keys entries) (keys kept) slot key.due key.rank t.queues (keys_least entries key slot least) ahead
+pub heads_later : {a : ℕ → ℕ → Bool} {r : ℕ → Bool} {room spare : ℕ} (m : TableView) (entries kept : ℕ → Option (ℕ × ℕ)) (slot due number : ℕ) → IsTable a r m entries kept room spare → IsLeastKey entries slot due number → m.moment < due → NoneDue m
+heads_later m entries kept slot due number t is ahead = least_not_due m entries kept slot due number t.queues is ahead
 
 -- where there is none
-pub heads_none : (m : TableView) (entries kept : List (Option Key)) → IsTable m entries kept → IsEmpty entries → NoneDue m
-heads_none m entries kept t empty = none_due m (keys entries) (keys kept) t.queues (λ i due number q. absurd (none-some (due, number) (sym (keys_empty entries empty i) ∙ q)))
+pub heads_none : {a : ℕ → ℕ → Bool} {r : ℕ → Bool} {room spare : ℕ} (m : TableView) (entries kept : ℕ → Option (ℕ × ℕ)) → IsTable a r m entries kept room spare → ((i : ℕ) → entries i ≡ None) → NoneDue m
+heads_none m entries kept t empty = none_due m entries kept t.queues (λ i due number q. absurd (none-some (due, number) (sym (empty i) ∙ q)))
 
 -- an entry that does not come before is due no earlier
 no_earlier : (due number later other : ℕ) → comes_before later other due number ≡ false → due ≤ later
 no_earlier due number later other q = grind (arith, nat_tests)
 
 -- the least entry is due first
-pub heads_earliest : (m : TableView) (entries kept : List (Option Key)) (key : Key) (slot : ℕ) → IsTable m entries kept → IsLeast entries key slot → IsEarliest m key.due
-heads_earliest m entries kept key slot t least =
-    let is = keys_least entries key slot least in
-    let at = waits_at m (keys entries) (keys kept) slot key.due key.rank t.queues is.there in
+pub heads_earliest : {a : ℕ → ℕ → Bool} {r : ℕ → Bool} {room spare : ℕ} (m : TableView) (entries kept : ℕ → Option (ℕ × ℕ)) (slot due number : ℕ) → IsTable a r m entries kept room spare → IsLeastKey entries slot due number → IsEarliest m due
+heads_earliest m entries kept slot due number t is =
+    let at = waits_at m entries kept slot due number t.queues is.there in
     record {
       slot = slot;
       task = at.x;
       there = at.there;
       waiting = at.waiting;
       is = at.dues;
-      least = λ i y there waiting. no_earlier key.due key.rank y.due y.number (is.least i y.due y.number (entry_at m (keys entries) (keys kept) i y t.queues there waiting));
+      least = λ i y there waiting. no_earlier due number y.due y.number (is.least i y.due y.number (entry_at m entries kept i y t.queues there waiting));
     }
 
 -- where there is no entry, no task waits
-pub none_waits : (m : TableView) (entries kept : List (Option Key)) → IsTable m entries kept → IsEmpty entries → NoneWaits m
+pub none_waits : {a : ℕ → ℕ → Bool} {r : ℕ → Bool} {room spare : ℕ} (m : TableView) (entries kept : ℕ → Option (ℕ × ℕ)) → IsTable a r m entries kept room spare → ((i : ℕ) → entries i ≡ None) → NoneWaits m
 none_waits m entries kept t empty i y there = by (waits (task_in y)) refl
   where
     by : (b : Bool) → waits (task_in y) ≡ b → b ≡ false
-    by true waiting = absurd (none-some (y.due, y.number) (sym (keys_empty entries empty i) ∙ entry_at m (keys entries) (keys kept) i y t.queues there waiting))
+    by true waiting = absurd (none-some (y.due, y.number) (sym (empty i) ∙ entry_at m entries kept i y t.queues there waiting))
     by false waiting = refl
 
 -- the least entry of the kept tasks
-pub heads_kept : (m : TableView) (entries kept : List (Option Key)) (key : Key) (slot : ℕ) → IsTable m entries kept → IsLeast kept key slot → HeadsKept m slot key.due key.rank
-heads_kept m entries kept key slot t least =
-    let is = keys_least kept key slot least in
-    let at = stays_at m (keys entries) (keys kept) slot key.due key.rank t.queues is.there in
+pub heads_kept : {a : ℕ → ℕ → Bool} {r : ℕ → Bool} {room spare : ℕ} (m : TableView) (entries kept : ℕ → Option (ℕ × ℕ)) (slot due number : ℕ) → IsTable a r m entries kept room spare → IsLeastKey kept slot due number → HeadsKept m slot due number
+heads_kept m entries kept slot due number t is =
+    let at = stays_at m entries kept slot due number t.queues is.there in
     record {
       task = at.x;
       there = at.there;
       kept = at.kept;
       dues = at.dues;
       named = at.named;
-      unmet = λ first out. least_unmet m (keys entries) (keys kept) slot key.due key.rank at.x first t.formed t.queues is at.there out;
+      unmet = λ first out. least_unmet m entries kept slot due number at.x first t.formed t.queues is at.there out;
     }
 
 -- where there is none, no task is kept
-pub none_stays : (m : TableView) (entries kept : List (Option Key)) → IsTable m entries kept → IsEmpty kept → NoneKept m
-none_stays m entries kept t empty = none_kept m (keys entries) (keys kept) t.queues (keys_empty kept empty)
+pub none_stays : {a : ℕ → ℕ → Bool} {r : ℕ → Bool} {room spare : ℕ} (m : TableView) (entries kept : ℕ → Option (ℕ × ℕ)) → IsTable a r m entries kept room spare → ((i : ℕ) → kept i ≡ None) → NoneKept m
+none_stays m entries kept t empty = none_kept m entries kept t.queues empty
 
 -- what follows of a value, if there is one, and where there is none
 pub if_some : {X : Type 0} (P Q : X → Type 0) (o : Option X) → ((x : X) → P x → Q x) → IfSome o P → IfSome o Q

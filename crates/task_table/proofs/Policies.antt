@@ -9,16 +9,16 @@ use Rattle.sched_time.specs.Policies.{set_policy}
 use Rattle.queue_code.specs.declared.call.CodeCall.{CodeCall}
 use Rattle.queue_code.specs.declared.call.CodeCall.TheVariants as c
 use Rattle.queue_code.specs.Calls.{Planned, terms_of}
-use Rattle.executor_core.specs.declared.types.Happening.TheVariants as h
-use Rattle.executor_core.specs.declared.types.Answer.{Answer}
-use Rattle.executor_core.specs.declared.types.Answer.TheVariants as a
-use Rattle.executor_core.specs.declared.task.Task.{Task}
-use Rattle.executor_core.specs.View.{View}
-use Rattle.executor_core.specs.Answers.{bare, called, swept as ends_of, setting_sweeps}
-use Rattle.executor_core.specs.Histories.{happenings, cancels, kept_after, policies_after, work_after, is_shutdown, is_stop}
-use Rattle.executor_core.specs.State.{State, after, reply_of, state_after, task_after, view_of_state, move_task}
-use Rattle.executor_core.proofs.Calling.{view_at}
-use Rattle.executor_core.proofs.Keeping.{kept_stays}
+use Rattle.executor_model.specs.declared.types.Happening.TheVariants as h
+use Rattle.executor_model.specs.declared.types.Answer.{Answer}
+use Rattle.executor_model.specs.declared.types.Answer.TheVariants as a
+use Rattle.executor_model.specs.declared.task.Task.{Task}
+use Rattle.executor_model.specs.View.{View}
+use Rattle.executor_model.specs.Answers.{bare, called, swept as ends_of, setting_sweeps}
+use Rattle.executor_model.specs.Histories.{happenings, cancels, kept_after, policies_after, work_after, is_shutdown, is_stop}
+use Rattle.executor_model.specs.State.{State, after, reply_of, state_after, task_after, view_of_state, move_task}
+use Rattle.executor_model.proofs.Called.{view_at}
+use Rattle.executor_model.proofs.Keeping.{kept_stays}
 use Rattle.task_table.specs.Seats.{is_alive}
 use Rattle.task_table.specs.Tables.{TableView, workers_of, WorkIs, Shows, CallSteps}
 use Rattle.task_table.specs.Changes.{at_moment}

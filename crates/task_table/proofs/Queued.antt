@@ -8,20 +8,21 @@ use Rattle.std.proofs.lemmas.Option.{same_Some}
 use Rattle.sched_time.specs.declared.timing.Timing.{Timing}
 use Rattle.sched_time.specs.declared.policies.Policies.{Policies}
 use Rattle.sched_time.specs.declared.timing.Ending.{Ending}
-use Rattle.executor_core.specs.declared.types.CancelEffect.TheVariants as f
-use Rattle.executor_core.specs.declared.types.Outcome.{Outcome}
-use Rattle.executor_core.specs.declared.types.Outcome.TheVariants as o
-use Rattle.executor_core.specs.declared.task.Stage.TheVariants as ph
-use Rattle.executor_core.specs.Answers.{outcome_in}
-use Rattle.executor_core.proofs.Tables.{at_set}
+use Rattle.executor_model.specs.declared.types.CancelEffect.TheVariants as f
+use Rattle.executor_model.specs.declared.types.Outcome.{Outcome}
+use Rattle.executor_model.specs.declared.types.Outcome.TheVariants as o
+use Rattle.executor_model.specs.declared.task.Stage.TheVariants as ph
+use Rattle.executor_model.specs.Answers.{outcome_in}
+use Rattle.executor_model.proofs.Tables.{at_set}
 use Rattle.task_table.specs.declared.seat.Seat.{Seat}
 use Rattle.task_table.specs.Seats.{task_in, slot_of, is_waiting_in, is_running_in, waits, is_alive}
 use Rattle.task_table.specs.Tables.{TableView}
 use Rattle.task_table.specs.Ends.{is_swept, effect_of}
 use Rattle.task_table.specs.Changes.{put, submitted, at_moment, admitted, begun, started, ended, finished, cancelled, cancel_by, cancel_in, emptied, grown, unkept, swept, after_sweep}
 use Rattle.task_table.specs.own.Formed.{IsFormed}
-use Rattle.task_table.specs.own.Queues.{Queues, key_where, queued_key, kept_key, with_key, key_again, key_cancelled, ends_at, without_swept}
-use Rattle.task_table.proofs.Slots.{slot_within}
+use Rattle.task_table.specs.Orders.{with_key}
+use Rattle.task_table.specs.own.Queues.{Queues, key_where, queued_key, kept_key, key_again, key_cancelled, ends_at, without_swept}
+use Rattle.task_table.proofs.Written.{slot_within}
 use Rattle.task_table.proofs.Formed.{at_grown, at_swept, opened}
 
 -- ---- a change that leaves what the slots hold

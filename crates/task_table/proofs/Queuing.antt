@@ -1,16 +1,19 @@
 -- How many tasks stand in the queue: as many as there are entries in the two queues of a table.
-use Rattle.std.proofs.Common.{◌≡◌, ℕ, ◌+◌, ◌≤◌, ◌||◌, suc, Bool, true, false, cond, List, [], ◌∷◌, length, Option, Some, None, is_some, count_by, refl, sym, ap, ◌∙◌, arith}
+use Rattle.std.proofs.Common.{◌≡◌, ℕ, ◌+◌, ◌≤◌, ◌||◌, zero, suc, Bool, true, false, cond, List, [], ◌∷◌, length, Option, Some, None, is_some, count_by, refl, sym, ap, ◌∙◌, arith}
+use Rattle.std.specs.Prelude.{slice_index_or}
+use Rattle.std.specs.List.{range_with_len}
 use Rattle.std.specs.Option.{option_map}
+use Rattle.slot_queue.specs.Entries.{Key}
+use Rattle.slot_queue.specs.Queues.{key_in, entry_count}
 use Rattle.std.proofs.lemmas.Bool.{false≢true, false_from_ne_true}
 use Rattle.std.proofs.lemmas.List.Recursion.{is_count_by}
 use Rattle.queue_code.specs.Calls.{how_many}
-use Rattle.slot_queue.specs.Entries.{Key}
-use Rattle.slot_queue.specs.Queues.{entry_count}
 use Rattle.task_table.specs.declared.seat.Seat.{Seat}
 use Rattle.task_table.specs.Seats.{task_in, slot_of, waits}
 use Rattle.task_table.specs.Tables.{TableView}
 use Rattle.task_table.specs.Firsts.{stands_in_queue, queue_in}
-use Rattle.task_table.specs.own.Queues.{queued_key, kept_key, key_where, pair_of, keys, IsTable}
+use Rattle.task_table.specs.Orders.{pair_of, keys}
+use Rattle.task_table.specs.own.Queues.{queued_key, kept_key, key_where, IsTable}
 use Rattle.task_table.proofs.Firsts.{kept_waits_not}
 
 -- how many pass a test, counted either way
@@ -26,19 +29,36 @@ how_few p (x ∷ xs) = by (p x) (how_few p xs)
     by true few = omega (arith, few)
     by false few = omega (arith, few)
 
--- an entry stands at a slot where its key does
-some_pair : (a : Option Key) (k : Option (ℕ × ℕ)) → option_map pair_of a ≡ k → is_some a ≡ is_some k
-some_pair None k q = ap is_some q
-some_pair (Some key) k q = ap is_some q
+first_is : (n : ℕ) → n ≡ n + 0
+first_is n = omega arith
 
--- how many entries there are
-abbrev entries_of : List (Option Key) → ℕ
-entries_of xs = how_many is_some xs
+next_is : (n k : ℕ) → n + 1 + k ≡ n + suc k
+next_is n k = omega arith
 
--- where no key stands, there is no entry
-no_keys : (xs : List (Option Key)) → ((i : ℕ) → keys xs i ≡ None) → entries_of xs ≡ 0
-no_keys [] none = refl
-no_keys (a ∷ xs) none = ap (λ b. cond b (1 + entries_of xs) (entries_of xs)) (some_pair a None (none 0)) ∙ no_keys xs (λ i. none (suc i))
+-- a count by places is one of the list, as far as the list goes
+count_to : {X : Type 0} (f : ℕ → Bool) (g : Option X → Bool) (first room : ℕ) (xs : List (Option X)) → length xs ≤ room → g None ≡ false → ((i : ℕ) → f (first + i) ≡ g (slice_index_or xs i None)) →
+    how_many f (range_with_len first room) ≡ how_many g xs
+count_to f g first zero [] long none same = refl
+count_to f g first (suc room) [] long none same =
+    let at : f first ≡ false = ap f (first_is first) ∙ (same 0 ∙ none) in
+    let rest = count_to f g (first + 1) room [] (omega arith) none (λ i. ap f (next_is first i) ∙ same (suc i)) in
+    λ i. cond (at i) (1 + rest i) (rest i)
+count_to f g first zero (x ∷ xs) long none same = absurd (omega (arith, long))
+count_to f g first (suc room) (x ∷ xs) long none same =
+    let at : f first ≡ g x = ap f (first_is first) ∙ same 0 in
+    let rest = count_to f g (first + 1) room xs (omega (arith, long)) none (λ i. ap f (next_is first i) ∙ same (suc i)) in
+    λ i. cond (at i) (1 + rest i) (rest i)
+
+-- how many entries a queue of slots has, counted by slot
+pub keys_counted : (entries : List (Option Key)) → entry_count entries ≡ how_many (λ i. is_some (keys entries i)) (range_with_len 0 (length entries))
+keys_counted entries = sym (count_to (λ i. is_some (keys entries i)) is_some 0 (length entries) entries (omega arith) refl (λ i. ap (λ j. is_some (keys entries j)) (none_before i) ∙ stands (key_in entries i)) ∙ how_counts is_some entries)
+  where
+    none_before : (n : ℕ) → 0 + n ≡ n
+    none_before n = omega arith
+
+    stands : (o : Option Key) → is_some (option_map pair_of o) ≡ is_some o
+    stands None = refl
+    stands (Some key) = refl
 
 -- a slot stands in one queue, or in the other, or in none
 one_of : (o : Option Seat) → ((x : Seat) → o ≡ Some x → waits (task_in x) ≡ true → x.kept ≡ false) → cond (is_some (queued_key o)) 1 0 + cond (is_some (kept_key o)) 1 0 ≡ cond (stands_in_queue o) 1 0
@@ -63,24 +83,25 @@ one_more false false true x y q first rest = absurd (omega (arith, first))
 one_more false false false x y q first rest = rest
 
 -- the entries are as many as the slots that stand in a queue
-counted : (slots : List (Option Seat)) (xs ys : List (Option Key)) → length slots ≤ length xs → length slots ≤ length ys → ((i : ℕ) → keys xs i ≡ queued_key (slot_of slots i)) → ((i : ℕ) → keys ys i ≡ kept_key (slot_of slots i)) →
-    ((i : ℕ) (x : Seat) → slot_of slots i ≡ Some x → waits (task_in x) ≡ true → x.kept ≡ false) → entries_of xs + entries_of ys ≡ queue_in slots
-counted [] xs ys room spare queued held apart = omega (arith, no_keys xs queued, no_keys ys held)
-counted (o ∷ slots) [] ys room spare queued held apart = absurd (omega (arith, room))
-counted (o ∷ slots) (a ∷ xs) [] room spare queued held apart = absurd (omega (arith, spare))
-counted (o ∷ slots) (a ∷ xs) (b ∷ ys) room spare queued held apart =
-    let rest = counted slots xs ys (omega (arith, room)) (omega (arith, spare)) (λ i. queued (suc i)) (λ i. held (suc i)) (λ i. apart (suc i)) in
-    let first : cond (is_some a) 1 0 + cond (is_some b) 1 0 ≡ cond (stands_in_queue o) 1 0 =
-    (λ i. cond (some_pair a (queued_key o) (queued 0) i) 1 0 + cond (some_pair b (kept_key o) (held 0) i) 1 0) ∙ one_of o (apart 0)
-    in
-    one_more (is_some a) (is_some b) (stands_in_queue o) (entries_of xs) (entries_of ys) (queue_in slots) first rest
+counted : (slots : List (Option Seat)) → ((i : ℕ) (x : Seat) → slot_of slots i ≡ Some x → waits (task_in x) ≡ true → x.kept ≡ false) →
+    how_many (λ o. is_some (queued_key o)) slots + how_many (λ o. is_some (kept_key o)) slots ≡ queue_in slots
+counted [] apart = refl
+counted (o ∷ slots) apart =
+    one_more (is_some (queued_key o)) (is_some (kept_key o)) (stands_in_queue o) (how_many (λ o. is_some (queued_key o)) slots) (how_many (λ o. is_some (kept_key o)) slots) (queue_in slots) (one_of o (apart 0)) (counted slots (λ i. apart (suc i)))
+
+-- how many entries a queue has
+abbrev pub entries_in : (ℕ → Option (ℕ × ℕ)) → ℕ → ℕ
+entries_in entries room = how_many (λ i. is_some (entries i)) (range_with_len 0 room)
 
 -- of a table
-pub queue_counted : (m : TableView) (entries kept : List (Option Key)) → IsTable m entries kept → entry_count entries + entry_count kept ≡ queue_in m.slots
-queue_counted m entries kept t =
-    (λ i. sym (how_counts is_some entries) i + sym (how_counts is_some kept) i)
-    ∙ counted m.slots entries kept t.room t.spare t.queues.waiting t.queues.keeping
-    (λ i x there waiting. false_from_ne_true x.kept (λ held. absurd (kept_waits_not m i x t.formed there held waiting)))
+pub queue_counted : {a : ℕ → ℕ → Bool} {r : ℕ → Bool} (m : TableView) (entries kept : ℕ → Option (ℕ × ℕ)) (room spare : ℕ) → IsTable a r m entries kept room spare → entries_in entries room + entries_in kept spare ≡ queue_in m.slots
+queue_counted m entries kept room spare t =
+    let waiting = count_to (λ i. is_some (entries i)) (λ o. is_some (queued_key o)) 0 room m.slots t.room refl (λ i. ap is_some (ap entries (none_first i) ∙ t.queues.waiting i)) in
+    let keeping = count_to (λ i. is_some (kept i)) (λ o. is_some (kept_key o)) 0 spare m.slots t.spare refl (λ i. ap is_some (ap kept (none_first i) ∙ t.queues.keeping i)) in
+    (λ i. waiting i + keeping i) ∙ counted m.slots (λ i x there waits_so. false_from_ne_true x.kept (λ held. absurd (kept_waits_not m i x t.formed there held waits_so)))
+  where
+    none_first : (n : ℕ) → 0 + n ≡ n
+    none_first n = omega arith
 
 -- they are few
 pub queue_few : (m : TableView) → queue_in m.slots ≤ length m.slots

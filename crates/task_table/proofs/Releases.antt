@@ -3,18 +3,18 @@ use Rattle.std.proofs.Common.{◌≡◌, ℕ, zero, suc, ◌-◌, ◌==◌, ◌&
 use Rattle.std.specs.Prelude.{slice_index_or, replicate, not}
 use Rattle.std.proofs.lemmas.Bool.{false≢true}
 use Rattle.std.proofs.lemmas.Option.{none-some, same_Some}
-use Rattle.executor_core.specs.declared.task.Stage.TheVariants as ph
+use Rattle.executor_model.specs.declared.task.Stage.TheVariants as ph
 use Rattle.queue_code.specs.Calls.{Planned}
-use Rattle.executor_core.specs.declared.types.Happening.{Happening}
-use Rattle.executor_core.specs.Histories.{HistoryEntry, happenings}
-use Rattle.executor_core.specs.State.{State, after}
-use Rattle.executor_core.proofs.Tables.{at_set, at_replicate}
+use Rattle.executor_model.specs.declared.types.Happening.{Happening}
+use Rattle.executor_model.specs.Histories.{HistoryEntry, happenings}
+use Rattle.executor_model.specs.State.{State, after}
+use Rattle.executor_model.proofs.Tables.{at_set, at_replicate}
 use Rattle.task_table.specs.declared.seat.Seat.{Seat}
 use Rattle.task_table.specs.Seats.{task_in, slot_of, is_alive, is_waiting_in, is_running_in}
 use Rattle.task_table.specs.Tables.{TableView, workers_of, WorkIs, Shows, keeping, Stands, StandsBefore}
 use Rattle.task_table.specs.Changes.{emptied, grown}
 use Rattle.task_table.specs.own.Formed.{IsFormed}
-use Rattle.task_table.proofs.Slots.{apart_eqb, slot_within}
+use Rattle.task_table.proofs.Written.{apart_eqb, slot_within}
 
 -- ---- a slot is emptied
 

@@ -4,23 +4,23 @@ use Rattle.std.specs.Prelude.{slice_get, slice_index_or}
 use Rattle.std.specs.Option.{option_map_or}
 use Rattle.std.proofs.lemmas.Option.{none-some, same_Some}
 use Rattle.queue_code.specs.declared.call.CodeCall.{CodeCall}
-use Rattle.executor_core.specs.declared.types.Happening.{Happening}
-use Rattle.executor_core.specs.declared.types.Happening.TheVariants as h
-use Rattle.executor_core.specs.declared.types.EventError.{EventError}
-use Rattle.executor_core.specs.declared.types.Answer.{Answer}
-use Rattle.executor_core.specs.declared.types.Answer.TheVariants as a
-use Rattle.executor_core.specs.declared.task.Task.{Task}
+use Rattle.executor_model.specs.declared.types.Happening.{Happening}
+use Rattle.executor_model.specs.declared.types.Happening.TheVariants as h
+use Rattle.executor_model.specs.declared.types.EventError.{EventError}
+use Rattle.executor_model.specs.declared.types.Answer.{Answer}
+use Rattle.executor_model.specs.declared.types.Answer.TheVariants as a
+use Rattle.executor_model.specs.declared.task.Task.{Task}
 use Rattle.queue_code.specs.Calls.{Planned}
-use Rattle.executor_core.specs.Answers.{Reply, bare, called}
-use Rattle.executor_core.specs.Histories.{HistoryEntry, happenings, IsHistoryOf}
-use Rattle.executor_core.specs.State.{State, after, reply_of, state_after}
-use Rattle.executor_core.proofs.Calling.{view_at, called_state, call_reply}
-use Rattle.executor_core.proofs.Errors.{errors_change_nothing}
+use Rattle.executor_model.specs.Answers.{Reply, bare, called}
+use Rattle.executor_model.specs.Histories.{HistoryEntry, happenings, IsHistoryOf}
+use Rattle.executor_model.specs.State.{State, after, reply_of, state_after}
+use Rattle.executor_model.proofs.Called.{view_at, called_state, call_reply}
+use Rattle.executor_model.proofs.Errors.{errors_change_nothing}
 use Rattle.task_table.specs.declared.seat.Seat.{Seat}
 use Rattle.task_table.specs.Seats.{task_in, slot_of, is_alive, IsNew}
 use Rattle.task_table.specs.Tables.{TableView, workers_of, WorkIs, Shows, Stands, Takes, IsNextCall}
 use Rattle.task_table.specs.Changes.{put, at_moment}
-use Rattle.task_table.proofs.Slots.{by_eqb, apart_eqb, Writes, set_writes, slot_within, AreApart, ChangesOne, holds_put, knows_put, holds_new, knows_new}
+use Rattle.task_table.proofs.Written.{by_eqb, apart_eqb, Writes, set_writes, slot_within, AreApart, ChangesOne, holds_put, knows_put, holds_new, knows_new}
 use Rattle.task_table.proofs.Standing.{made_there, takes}
 
 -- the next call after a history is the next one of the state to which it leads

@@ -10,8 +10,8 @@ use Rattle.std.proofs.lemmas.List.Sorted.{sum_by-IsPermutation, All-permutation}
 use Rattle.std.proofs.lemmas.List.Elements.{All-head, All-tail}
 use Rattle.std.proofs.lemmas.Option.{none-some, same_Some}
 use Rattle.queue_code.specs.Calls.{how_many}
-use Rattle.executor_core.specs.Histories.{is_end}
-use Rattle.executor_core.specs.Answers.{is_ended_by}
+use Rattle.executor_model.specs.Histories.{is_end}
+use Rattle.executor_model.specs.Answers.{is_ended_by}
 use Rattle.task_table.specs.declared.seat.Seat.{Seat}
 use Rattle.task_table.specs.declared.seat.TaskRef.{TaskRef}
 use Rattle.task_table.specs.Seats.{task_in, slot_of, waits, is_alive, is_waiting_in, is_running_in}
@@ -21,7 +21,7 @@ use Rattle.task_table.specs.Endings.{numbers_of, IsOverAt, SweepEnds}
 use Rattle.task_table.specs.Changes.{swept, after_sweep}
 use Rattle.task_table.specs.own.Formed.{IsFormed}
 use Rattle.task_table.specs.own.Found.{found, ends_task}
-use Rattle.task_table.proofs.Slots.{AreApart}
+use Rattle.task_table.proofs.Written.{AreApart}
 use Rattle.task_table.proofs.Formed.{at_swept}
 use Rattle.task_table.proofs.Firsts.{waits_is}
 use Rattle.task_table.proofs.Queuing.{how_counts}

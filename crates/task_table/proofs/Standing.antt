@@ -1,12 +1,12 @@
 -- What is known where a history leads, and when a step is taken.
 use Rattle.std.proofs.Common.{◌≡◌, ℕ, ◌≤◌, List, ◌∷◌, take, sym, ap, ◌∙◌, subst}
-use Rattle.executor_core.specs.declared.types.Happening.{Happening}
+use Rattle.executor_model.specs.declared.types.Happening.{Happening}
 use Rattle.queue_code.specs.Calls.{Planned, task_count}
-use Rattle.executor_core.specs.Answers.{Reply}
-use Rattle.executor_core.specs.Histories.{HistoryEntry, happenings, made, answer, view_of_history, IsHistoryOf}
-use Rattle.executor_core.specs.State.{State, vacant, after, reply_of, state_after, view_of_state}
-use Rattle.executor_core.specs.own.Invariants.{IsSound, IsDue, TimingsAgree}
-use Rattle.executor_core.proofs.Agree.{after_agrees, answers_alike}
+use Rattle.executor_model.specs.Answers.{Reply}
+use Rattle.executor_model.specs.Histories.{HistoryEntry, happenings, made, answer, view_of_history, IsHistoryOf}
+use Rattle.executor_model.specs.State.{State, vacant, after, reply_of, state_after, view_of_state}
+use Rattle.executor_model.specs.own.Soundness.{IsSound, IsDue, TimingsAgree}
+use Rattle.executor_model.proofs.Agree.{after_agrees, answers_alike}
 use Rattle.task_table.specs.Tables.{TableView, workers_of, Shows, Takes}
 
 -- what is known of a state to which a history of some calls leads

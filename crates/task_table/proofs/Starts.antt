@@ -4,26 +4,26 @@ use Rattle.std.specs.Prelude.{slice_index_or}
 use Rattle.std.proofs.Math.ListN.{length-set}
 use Rattle.std.proofs.lemmas.Bool.{false≢true, eq-eqb, and_right, or_left, or_right}
 use Rattle.std.proofs.lemmas.Option.{same_Some}
-use Rattle.executor_core.specs.declared.types.Happening.{Happening}
-use Rattle.executor_core.specs.declared.types.Happening.TheVariants as h
-use Rattle.executor_core.specs.declared.types.Answer.{Answer}
-use Rattle.executor_core.specs.declared.types.Answer.TheVariants as a
-use Rattle.executor_core.specs.declared.task.Stage.TheVariants as ph
-use Rattle.executor_core.specs.declared.task.Task.{Task}
+use Rattle.executor_model.specs.declared.types.Happening.{Happening}
+use Rattle.executor_model.specs.declared.types.Happening.TheVariants as h
+use Rattle.executor_model.specs.declared.types.Answer.{Answer}
+use Rattle.executor_model.specs.declared.types.Answer.TheVariants as a
+use Rattle.executor_model.specs.declared.task.Stage.TheVariants as ph
+use Rattle.executor_model.specs.declared.task.Task.{Task}
 use Rattle.queue_code.specs.Calls.{Planned}
-use Rattle.executor_core.specs.View.{View, is_waiting}
-use Rattle.executor_core.specs.Answers.{Reply, reply, bare}
-use Rattle.executor_core.specs.Histories.{HistoryEntry, happenings, is_sweep, is_cancel, meets, kept_after}
-use Rattle.executor_core.specs.State.{State, after, view_of_state, reply_of, state_after, task_after}
-use Rattle.executor_core.proofs.Keeping.{kept_stays}
-use Rattle.executor_core.proofs.Tables.{at_set}
+use Rattle.executor_model.specs.View.{View, is_waiting}
+use Rattle.executor_model.specs.Answers.{Reply, reply, bare}
+use Rattle.executor_model.specs.Histories.{HistoryEntry, happenings, is_sweep, is_cancel, meets, kept_after}
+use Rattle.executor_model.specs.State.{State, after, view_of_state, reply_of, state_after, task_after}
+use Rattle.executor_model.proofs.Keeping.{kept_stays}
+use Rattle.executor_model.proofs.Tables.{at_set}
 use Rattle.task_table.specs.declared.seat.Seat.{Seat}
 use Rattle.task_table.specs.Seats.{task_in, slot_of, is_running_in, waits}
 use Rattle.task_table.specs.Tables.{TableView, workers_of, WorkIs, Shows, keeping, Stands, StandsBefore, EventStepsBefore, Takes}
 use Rattle.task_table.specs.Firsts.{IsFirstDue, NoneDue, FirstIs, MeetsNone}
 use Rattle.task_table.specs.Changes.{begun, started}
 use Rattle.task_table.specs.own.Formed.{IsFormed}
-use Rattle.task_table.proofs.Slots.{by_eqb, Writes, set_writes, slot_within, ChangesOne, holds_put, knows_put}
+use Rattle.task_table.proofs.Written.{by_eqb, Writes, set_writes, slot_within, ChangesOne, holds_put, knows_put}
 use Rattle.task_table.proofs.Standing.{Known, view_there, takes}
 use Rattle.task_table.proofs.Knowing.{known}
 use Rattle.task_table.proofs.Firsts.{start_gets, start_said, start_meets}

@@ -4,23 +4,23 @@ use Rattle.std.proofs.lemmas.Bool.{eq-eqb}
 use Rattle.sched_time.specs.declared.timing.Timing.{Timing}
 use Rattle.sched_time.specs.declared.timing.Timing.TheVariants as t
 use Rattle.queue_code.specs.declared.call.CodeCall.TheVariants as c
-use Rattle.executor_core.specs.declared.types.Refusal.TheVariants as refusal
-use Rattle.executor_core.specs.declared.types.Kind.{Kind}
-use Rattle.executor_core.specs.declared.types.Answer.TheVariants as a
-use Rattle.executor_core.specs.declared.types.Happening.TheVariants as h
-use Rattle.executor_core.specs.declared.task.Task.{Task}
+use Rattle.executor_model.specs.declared.types.Refusal.TheVariants as refusal
+use Rattle.executor_model.specs.declared.types.Kind.{Kind}
+use Rattle.executor_model.specs.declared.types.Answer.TheVariants as a
+use Rattle.executor_model.specs.declared.types.Happening.TheVariants as h
+use Rattle.executor_model.specs.declared.task.Task.{Task}
 use Rattle.queue_code.specs.Calls.{Planned, Terms, terms_of, due_at}
-use Rattle.executor_core.specs.Answers.{bare, called, kind_of}
-use Rattle.executor_core.specs.Histories.{HistoryEntry, happenings}
-use Rattle.executor_core.specs.State.{State, vacant, after, view_of_state, task_after, submit_phase}
-use Rattle.executor_core.proofs.Calling.{view_at}
-use Rattle.executor_core.proofs.Keeping.{kept_stays}
-use Rattle.executor_core.proofs.Tables.{submission}
+use Rattle.executor_model.specs.Answers.{bare, called, kind_of}
+use Rattle.executor_model.specs.Histories.{HistoryEntry, happenings}
+use Rattle.executor_model.specs.State.{State, vacant, after, view_of_state, task_after, submit_phase}
+use Rattle.executor_model.proofs.Called.{view_at}
+use Rattle.executor_model.proofs.Keeping.{kept_stays}
+use Rattle.executor_model.proofs.Tables.{submission}
 use Rattle.task_table.specs.Seats.{task_in, slot_of, IsNew}
 use Rattle.task_table.specs.Tables.{TableView, workers_of, Stands, Takes, IsNextCall, CallSteps}
 use Rattle.task_table.specs.Changes.{put, submitted, at_moment, admitted}
 use Rattle.task_table.specs.own.Formed.{IsFormed}
-use Rattle.task_table.proofs.Slots.{ChangesOne}
+use Rattle.task_table.proofs.Written.{ChangesOne}
 use Rattle.task_table.proofs.Standing.{Known}
 use Rattle.task_table.proofs.Knowing.{known}
 use Rattle.task_table.proofs.Shown.{next_there, takes_call, same_shown, later_shown, new_shown}

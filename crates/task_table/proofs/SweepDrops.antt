@@ -7,21 +7,21 @@ use Rattle.std.proofs.lemmas.Option.{same_Some}
 use Rattle.queue_code.specs.declared.call.CodeCall.{CodeCall}
 use Rattle.queue_code.specs.declared.call.CodeCall.TheVariants as c
 use Rattle.queue_code.specs.Calls.{Planned}
-use Rattle.executor_core.specs.declared.types.Happening.TheVariants as h
-use Rattle.executor_core.specs.declared.types.Answer.TheVariants as a
-use Rattle.executor_core.specs.View.{View}
-use Rattle.executor_core.specs.Answers.{bare, called, swept as ends_of}
-use Rattle.executor_core.specs.Histories.{HistoryEntry, happenings, answer, is_sweep, view_of_history}
-use Rattle.executor_core.specs.State.{State, after}
-use Rattle.executor_core.proofs.Keeping.{kept_swept}
-use Rattle.executor_core.proofs.Sweeping.{and_none}
+use Rattle.executor_model.specs.declared.types.Happening.TheVariants as h
+use Rattle.executor_model.specs.declared.types.Answer.TheVariants as a
+use Rattle.executor_model.specs.View.{View}
+use Rattle.executor_model.specs.Answers.{bare, called, swept as ends_of}
+use Rattle.executor_model.specs.Histories.{HistoryEntry, happenings, answer, is_sweep, view_of_history}
+use Rattle.executor_model.specs.State.{State, after}
+use Rattle.executor_model.proofs.Keeping.{kept_swept}
+use Rattle.executor_model.proofs.Swept.{and_none}
 use Rattle.task_table.specs.declared.seat.Seat.{Seat}
 use Rattle.task_table.specs.Seats.{task_in, slot_of}
 use Rattle.task_table.specs.Tables.{TableView, workers_of, WorkIs, Shows, keeping, StandsBefore, IsNextCall}
 use Rattle.task_table.specs.Ends.{sweeps_at}
 use Rattle.task_table.specs.Changes.{put, unkept}
 use Rattle.task_table.specs.own.Formed.{IsFormed}
-use Rattle.task_table.proofs.Slots.{by_eqb, set_writes, slot_within, ChangesOne, holds_put, knows_put, Writes}
+use Rattle.task_table.proofs.Written.{by_eqb, set_writes, slot_within, ChangesOne, holds_put, knows_put, Writes}
 use Rattle.task_table.proofs.Standing.{view_there}
 
 -- the answer to a call that sweeps is that of a sweep

@@ -10,22 +10,21 @@ use Rattle.sched_time.specs.Policies.{set_policy}
 use Rattle.queue_code.specs.declared.call.CodeCall.{CodeCall}
 use Rattle.queue_code.specs.declared.call.CodeCall.TheVariants as c
 use Rattle.queue_code.specs.Calls.{Planned, terms_of, task_count}
-use Rattle.executor_core.specs.declared.types.Happening.TheVariants as h
-use Rattle.executor_core.specs.declared.types.Answer.{Answer}
-use Rattle.executor_core.specs.declared.types.Answer.TheVariants as a
-use Rattle.executor_core.specs.declared.task.Stage.{Stage}
-use Rattle.executor_core.specs.declared.task.Stage.TheVariants as ph
-use Rattle.executor_core.specs.declared.task.Task.{Task}
-use Rattle.executor_core.specs.View.{View, is_waiting}
-use Rattle.executor_core.specs.Answers.{Reply, bare, called, swept as ends_of, is_swept as is_in_sweep, is_ended_by, setting_sweeps}
-use Rattle.executor_core.specs.Histories.{happenings, is_end, cancels, kept_after}
-use Rattle.executor_core.specs.State.{State, vacant, after, reply_of, state_after, task_after, view_of_state, seen_task}
-use Rattle.executor_core.specs.own.Tables.{waits_with, is_waiting_phase}
-use Rattle.executor_core.proofs.Calling.{view_at}
-use Rattle.executor_core.proofs.Keeping.{kept_swept}
-use Rattle.executor_core.proofs.Sweeping.{ends_are, and_left, swept_under}
-use Rattle.executor_core.proofs.SweepSteps.{IsSweeping}
-use Rattle.executor_core.proofs.SweepSteps as sweeps
+use Rattle.executor_model.specs.declared.types.Happening.TheVariants as h
+use Rattle.executor_model.specs.declared.types.Answer.{Answer}
+use Rattle.executor_model.specs.declared.types.Answer.TheVariants as a
+use Rattle.executor_model.specs.declared.task.Stage.{Stage}
+use Rattle.executor_model.specs.declared.task.Stage.TheVariants as ph
+use Rattle.executor_model.specs.declared.task.Task.{Task}
+use Rattle.executor_model.specs.View.{View, is_waiting}
+use Rattle.executor_model.specs.Answers.{Reply, bare, called, swept as ends_of, is_swept as is_in_sweep, is_ended_by, setting_sweeps}
+use Rattle.executor_model.specs.Histories.{happenings, is_end, cancels, kept_after}
+use Rattle.executor_model.specs.State.{State, vacant, after, reply_of, state_after, task_after, view_of_state, seen_task}
+use Rattle.executor_model.specs.own.Phases.{waits_with, is_waiting_phase}
+use Rattle.executor_model.proofs.Called.{view_at}
+use Rattle.executor_model.proofs.Keeping.{kept_swept}
+use Rattle.executor_model.proofs.Swept.{ends_are, and_left, swept_under, IsSweeping}
+use Rattle.executor_model.proofs.Swept as sweeps
 use Rattle.task_table.specs.declared.seat.Seat.{Seat}
 use Rattle.task_table.specs.Seats.{task_in, slot_of, waits, is_alive, is_waiting_in, is_running_in}
 use Rattle.task_table.specs.Tables.{TableView, workers_of, WorkIs, Shows, keeping, CallStepsBefore}

@@ -8,21 +8,21 @@ use Rattle.sched_time.specs.declared.timing.Timing.{Timing}
 use Rattle.queue_code.specs.declared.call.CodeCall.{CodeCall}
 use Rattle.queue_code.specs.declared.call.CodeCall.TheVariants as c
 use Rattle.queue_code.specs.Calls.{Planned, terms_of, numbers, due_at}
-use Rattle.executor_core.specs.declared.types.Happening.{Happening}
-use Rattle.executor_core.specs.declared.types.Happening.TheVariants as h
-use Rattle.executor_core.specs.declared.types.EventError.TheVariants as x
-use Rattle.executor_core.specs.declared.types.Refusal.TheVariants as refusal
-use Rattle.executor_core.specs.declared.types.Answer.{Answer}
-use Rattle.executor_core.specs.declared.types.Answer.TheVariants as a
-use Rattle.executor_core.specs.declared.task.Stage.TheVariants as ph
-use Rattle.executor_core.specs.declared.task.Task.{Task}
-use Rattle.executor_core.specs.View.{View, is_waiting}
-use Rattle.executor_core.specs.Answers.{Reply, bare, called, kind_of, swept, start_answer, finish_answer, effect_on}
-use Rattle.executor_core.specs.Histories.{is_cancel, is_end, is_ended, is_finish_with, had_effect, is_sweep, meets, kept_after}
-use Rattle.executor_core.specs.State.{State, vacant, next, reply_of, view_of_state, seen_task, task_after, move_task, submit_phase, finish_task}
-use Rattle.executor_core.specs.own.Invariants.{IsSound}
-use Rattle.executor_core.proofs.Sound.{Finds, reply_finds}
-use Rattle.executor_core.proofs.Replies.{call_ends_waiting}
+use Rattle.executor_model.specs.declared.types.Happening.{Happening}
+use Rattle.executor_model.specs.declared.types.Happening.TheVariants as h
+use Rattle.executor_model.specs.declared.types.EventError.TheVariants as x
+use Rattle.executor_model.specs.declared.types.Refusal.TheVariants as refusal
+use Rattle.executor_model.specs.declared.types.Answer.{Answer}
+use Rattle.executor_model.specs.declared.types.Answer.TheVariants as a
+use Rattle.executor_model.specs.declared.task.Stage.TheVariants as ph
+use Rattle.executor_model.specs.declared.task.Task.{Task}
+use Rattle.executor_model.specs.View.{View, is_waiting}
+use Rattle.executor_model.specs.Answers.{Reply, bare, called, kind_of, swept, start_answer, finish_answer, effect_on}
+use Rattle.executor_model.specs.Histories.{is_cancel, is_end, is_ended, is_finish_with, had_effect, is_sweep, meets, kept_after}
+use Rattle.executor_model.specs.State.{State, vacant, next, reply_of, view_of_state, seen_task, task_after, move_task, submit_phase, finish_task}
+use Rattle.executor_model.specs.own.Soundness.{IsSound}
+use Rattle.executor_model.proofs.Sound.{Finds, reply_finds}
+use Rattle.executor_model.proofs.Replies.{call_ends_waiting}
 
 -- ---- an answer that is of another task leaves a vacant task vacant
 

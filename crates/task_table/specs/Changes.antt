@@ -3,11 +3,11 @@
 use Rattle.std.specs.Prelude.{ℕ, ◌+◌, ◌-◌, ◌&&◌, ◌||◌, ◌++◌, not, Bool, true, false, length, replicate, map, Some, None, slice_set, option_map}
 use Rattle.sched_time.specs.declared.timing.Timing.{Timing}
 use Rattle.sched_time.specs.declared.policies.Policies.{Policies}
-use Rattle.executor_core.specs.declared.types.Outcome.{Outcome}
-use Rattle.executor_core.specs.declared.types.Outcome.TheVariants as o
-use Rattle.executor_core.specs.declared.task.Stage.TheVariants as ph
-use Rattle.executor_core.specs.declared.types.CancelEffect.{CancelEffect}
-use Rattle.executor_core.specs.declared.types.CancelEffect.TheVariants as f
+use Rattle.executor_model.specs.declared.types.Outcome.{Outcome}
+use Rattle.executor_model.specs.declared.types.Outcome.TheVariants as o
+use Rattle.executor_model.specs.declared.task.Stage.TheVariants as ph
+use Rattle.executor_model.specs.declared.types.CancelEffect.{CancelEffect}
+use Rattle.executor_model.specs.declared.types.CancelEffect.TheVariants as f
 use Rattle.task_table.specs.declared.seat.Seat.{Seat}
 use Rattle.task_table.specs.Seats.{is_waiting_in}
 use Rattle.task_table.specs.Tables.{TableView}
@@ -49,9 +49,13 @@ ended (o.Again next) due x = record x { phase = ph.Waiting; run = x.run + 1; due
 abbrev pub finished : TableView → ℕ → ℕ → Seat → Outcome → ℕ → TableView
 finished m worker slot x outcome due = record (put m slot (ended outcome due x)) { work = slice_set m.work worker None }
 
+-- a task that is cancelled, and kept from then on where this says so, or where it was kept before
+abbrev pub cancelled_keeping : Bool → Seat → Seat
+cancelled_keeping keeps x = record x { cancelled = true; kept = x.kept || keeps }
+
 -- a task that is cancelled: one that waits is kept, unless cancelled tasks leave the queue
 abbrev pub cancelled : Bool → Seat → Seat
-cancelled removes x = record x { cancelled = true; kept = x.kept || (is_waiting_in x.phase && not removes) }
+cancelled removes x = cancelled_keeping (is_waiting_in x.phase && not removes) x
 
 -- the table once a cancel of the task in a slot has this effect
 abbrev pub cancel_by : CancelEffect → TableView → ℕ → Seat → TableView

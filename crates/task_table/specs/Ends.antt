@@ -2,14 +2,14 @@
 -- All of it is this project's rule.
 use Rattle.std.specs.Prelude.{◌≡◌, ℕ, ◌<◌, ◌&&◌, ◌||◌, not, Bool, true, false, if◌then◌else◌, List, [], ◌∷◌, Some}
 use Rattle.sched_time.specs.declared.policies.Policies.{Policies}
-use Rattle.executor_core.specs.declared.types.CancelEffect.{CancelEffect}
-use Rattle.executor_core.specs.declared.types.CancelEffect.TheVariants as f
-use Rattle.executor_core.specs.declared.task.Stage.{Stage}
-use Rattle.executor_core.specs.declared.task.Stage.TheVariants as ph
+use Rattle.executor_model.specs.declared.types.CancelEffect.{CancelEffect}
+use Rattle.executor_model.specs.declared.types.CancelEffect.TheVariants as f
+use Rattle.executor_model.specs.declared.task.Stage.{Stage}
+use Rattle.executor_model.specs.declared.task.Stage.TheVariants as ph
 use Rattle.queue_code.specs.declared.call.CodeCall.{CodeCall}
 use Rattle.queue_code.specs.declared.call.CodeCall.TheVariants as c
-use Rattle.executor_core.specs.Answers.{is_ended_by, setting_sweeps}
-use Rattle.executor_core.specs.Histories.{is_end}
+use Rattle.executor_model.specs.Answers.{is_ended_by, setting_sweeps}
+use Rattle.executor_model.specs.Histories.{is_end}
 use Rattle.task_table.specs.declared.seat.Seat.{Seat}
 use Rattle.task_table.specs.Seats.{task_in, slot_of, waits, is_waiting_in, is_running_in}
 use Rattle.task_table.specs.Tables.{TableView}

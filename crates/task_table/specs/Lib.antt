@@ -1,8 +1,9 @@
 pub use Rattle.queue_code.specs.Calls
-pub use Rattle.executor_core.specs.View
-pub use Rattle.executor_core.specs.Answers
-pub use Rattle.executor_core.specs.Histories
-pub use Rattle.executor_core.specs.State
+pub use Rattle.executor_model.specs.View
+pub use Rattle.executor_model.specs.Answers
+pub use Rattle.executor_model.specs.Histories
+pub use Rattle.executor_model.specs.State
+pub mod Orders
 pub mod Seats
 pub mod Tables
 pub mod Firsts

@@ -1,16 +1,16 @@
 -- What the calls of a table say: of the clock, of the workers' starts and finishes, and of kept tasks that are dropped.
 -- All of it is this project's rule, but where a source is named.
-use Rattle.std.specs.Prelude.{◌≡◌, ℕ, ◌+◌, ◌-◌, ◌^◌, ◌<◌, ◌≤◌, true, false, Option, Some, None, slice_index_or}
+use Rattle.std.specs.Prelude.{◌≡◌, Bool, ℕ, ◌+◌, ◌-◌, ◌^◌, ◌<◌, ◌≤◌, true, false, Option, Some, None, slice_index_or}
 use Rattle.sched_time.specs.Times.{longest}
 use Rattle.sched_time.specs.declared.timing.Ending.{Ending}
-use Rattle.executor_core.specs.declared.types.EventError.{EventError}
-use Rattle.executor_core.specs.declared.types.EventError.TheVariants as x
-use Rattle.executor_core.specs.declared.types.Happening.TheVariants as h
-use Rattle.executor_core.specs.declared.types.Outcome.{Outcome}
-use Rattle.executor_core.specs.declared.types.Outcome.TheVariants as o
-use Rattle.executor_core.specs.declared.types.Answer.TheVariants as a
-use Rattle.executor_core.specs.Answers.{bare, outcome_in, stops_periodic}
-use Rattle.executor_core.specs.State.{due_past}
+use Rattle.executor_model.specs.declared.types.EventError.{EventError}
+use Rattle.executor_model.specs.declared.types.EventError.TheVariants as x
+use Rattle.executor_model.specs.declared.types.Happening.TheVariants as h
+use Rattle.executor_model.specs.declared.types.Outcome.{Outcome}
+use Rattle.executor_model.specs.declared.types.Outcome.TheVariants as o
+use Rattle.executor_model.specs.declared.types.Answer.TheVariants as a
+use Rattle.executor_model.specs.Answers.{bare, outcome_in, stops_periodic}
+use Rattle.executor_model.specs.State.{due_past}
 use Rattle.task_table.specs.declared.seat.Seat.{Seat}
 use Rattle.task_table.specs.declared.answers.Begun.{Begun}
 use Rattle.task_table.specs.declared.answers.Ended.{Ended}
@@ -66,6 +66,10 @@ pub record IsFull (m : TableView) : Type 0 where
   pub task : Seat
   pub first : IsFirstDue m slot task
   pub last : task.run ≡ 2 ^ 64 - 1
+
+-- the run of the first task that is due may be under way, where a number is left for the one after it
+abbrev pub MayRun : (ℕ → Bool) → TableView → Type 0
+MayRun may_run m = (i : ℕ) (x : Seat) → IsFirstDue m i x → x.run + 1 < 2 ^ 64 → may_run x.run ≡ true
 
 -- why a start had no effect: it is refused, and answered by that error; or it is not, and has no answer
 abbrev pub FailsStart : TableView → ℕ → StartError → Type 0

@@ -1,9 +1,9 @@
 -- What stands in the slots of a table of tasks.
 -- All of it is this project's rule.
 use Rattle.std.specs.Prelude.{◌≡◌, ℕ, ◌&&◌, ◌||◌, not, Bool, true, false, List, Option, Some, None, slice_index_or}
-use Rattle.executor_core.specs.declared.task.Stage.{Stage}
-use Rattle.executor_core.specs.declared.task.Stage.TheVariants as ph
-use Rattle.executor_core.specs.declared.task.Task.{Task}
+use Rattle.executor_model.specs.declared.task.Stage.{Stage}
+use Rattle.executor_model.specs.declared.task.Stage.TheVariants as ph
+use Rattle.executor_model.specs.declared.task.Task.{Task}
 use Rattle.task_table.specs.declared.seat.Seat.{Seat}
 
 -- the task of which this is held

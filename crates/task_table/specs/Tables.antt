@@ -2,12 +2,12 @@
 -- All of it is this project's rule.
 use Rattle.std.specs.Prelude.{◌≡◌, ℕ, Bool, true, false, List, ◌∷◌, length, Option, Some, None, slice_get, slice_index_or}
 use Rattle.sched_time.specs.declared.policies.Policies.{Policies}
-use Rattle.executor_core.specs.declared.types.Happening.{Happening}
-use Rattle.executor_core.specs.declared.types.Happening.TheVariants as h
+use Rattle.executor_model.specs.declared.types.Happening.{Happening}
+use Rattle.executor_model.specs.declared.types.Happening.TheVariants as h
 use Rattle.queue_code.specs.Calls.{Planned, IsOrderly}
-use Rattle.executor_core.specs.Answers.{Reply}
-use Rattle.executor_core.specs.Histories.{HistoryEntry, happenings, made, answer, kept_after, view_of_history, IsHistoryOf}
-use Rattle.executor_core.specs.State.{State, after}
+use Rattle.executor_model.specs.Answers.{Reply}
+use Rattle.executor_model.specs.Histories.{HistoryEntry, happenings, made, answer, kept_after, view_of_history, IsHistoryOf}
+use Rattle.executor_model.specs.State.{State, after}
 use Rattle.task_table.specs.declared.seat.Seat.{Seat}
 use Rattle.task_table.specs.Seats.{task_in, slot_of, is_alive}
 

@@ -1,6 +1,6 @@
 //! What a table answers.
 use crate::seat::TaskRef;
-use executor_core::{EventError, Outcome};
+use executor_model::{EventError, Outcome};
 
 /// A run that is begun.
 #[derive(Clone, Copy, Debug, PartialEq, Eq)]

@@ -3,15 +3,17 @@ ghost use Rattle.std.specs.Prelude.{◌≡◌, ◌≤◌, count_by, is_some};
 ghost use Rattle.queue_code.specs.Calls.{how_many};
 ghost use Rattle.queue_code.specs.declared.call.CodeCall.TheVariants as call;
 ghost use Rattle.sched_time.specs.Times.{longest};
-ghost use Rattle.executor_core.specs.Answers.{bare, is_terminated};
-ghost use Rattle.executor_core.specs.declared.types.Answer.TheVariants as answer;
+ghost use Rattle.executor_model.specs.Answers.{bare, is_terminated};
+ghost use Rattle.executor_model.specs.declared.types.Answer.TheVariants as answer;
 ghost use Rattle.task_table.specs.Changes as changes;
 
 use crate::answers::Asked;
-use crate::table::TaskTable;
+use crate::queues::TaskQueue;
+use crate::slots::Slots;
+use crate::table::Table;
 use std::alloc::Allocator;
 
-impl<A: Allocator> TaskTable<A> {
+impl<S: Slots, Q: TaskQueue, A: Allocator> Table<S, Q, A> {
     ghost use Rattle.task_table.specs.Tables.{CallSteps};
     ghost use Rattle.task_table.specs.Firsts.{queue_in};
     ghost use Rattle.task_table.specs.own.Formed.{IsFormed};

@@ -1,29 +1,29 @@
 //! Cancels of tasks that have a slot, by a call or from outside, and calls that change no task.
-ghost use Rattle.std.specs.Prelude.{◌≡◌, ℕ, ◌<◌, ◌≤◌, ◌&&◌, not, true, List, Some, None, length, slice_set};
-ghost use Rattle.slot_queue.specs.Queues.{key_in};
+ghost use Rattle.std.specs.Prelude.{◌≡◌, ℕ, ◌<◌, ◌≤◌, ◌&&◌, not, true, List, Some};
 ghost use Rattle.queue_code.specs.Calls.{Planned};
 ghost use Rattle.queue_code.specs.declared.call.CodeCall.TheVariants as call;
 ghost use Rattle.sched_time.specs.Times.{longest};
-ghost use Rattle.executor_core.specs.Answers.{bare};
-ghost use Rattle.executor_core.specs.Histories.{HistoryEntry, happenings};
-ghost use Rattle.executor_core.specs.State.{after};
-ghost use Rattle.executor_core.specs.declared.types.Answer.TheVariants as answer;
-ghost use Rattle.executor_core.specs.declared.types.CancelEffect.TheVariants as effects;
-ghost use Rattle.executor_core.specs.declared.types.Happening.TheVariants as happening;
-ghost use Rattle.executor_core.specs.declared.types.Refusal.TheVariants as refusal;
+ghost use Rattle.executor_model.specs.Answers.{bare};
+ghost use Rattle.executor_model.specs.Histories.{HistoryEntry, happenings};
+ghost use Rattle.executor_model.specs.State.{after};
+ghost use Rattle.executor_model.specs.declared.types.Answer.TheVariants as answer;
+ghost use Rattle.executor_model.specs.declared.types.CancelEffect.TheVariants as effects;
+ghost use Rattle.executor_model.specs.declared.types.Happening.TheVariants as happening;
+ghost use Rattle.executor_model.specs.declared.types.Refusal.TheVariants as refusal;
 ghost use Rattle.task_table.specs.Changes as changes;
 ghost use Rattle.task_table.specs.Ends as effects_of;
 ghost use Rattle.task_table.specs.Seats as phases;
 ghost use Rattle.task_table.specs.Seats.{slot_of};
 ghost use Rattle.task_table.specs.declared.seat.Seat as seats;
 
+use crate::queues::{Entry, TaskQueue};
 use crate::seat::Seat;
-use crate::table::TaskTable;
-use executor_core::{CancelEffect, Stage};
-use slot_queue::{Entry, SlotQueue};
+use crate::slots::Slots;
+use crate::table::Table;
+use executor_model::{CancelEffect, Stage};
 use std::alloc::Allocator;
 
-impl<A: Allocator> TaskTable<A> {
+impl<S: Slots, Q: TaskQueue, A: Allocator> Table<S, Q, A> {
     ghost use Rattle.task_table.specs.Tables.{workers_of, Stands, Takes, IsNextCall, CallSteps, EventSteps};
     ghost use Rattle.task_table.specs.Seats.{IsNew};
     ghost use Rattle.task_table.specs.Ends.{effect_of, effect_gone};
@@ -111,24 +111,18 @@ impl<A: Allocator> TaskTable<A> {
         ensures { self.new
             ≡ changes.put self.old slot (changes.cancelled self.old.policies.removes seat) }
     {
-        let removes = self.policies.removes;
-        cancel_in(&mut self.slots, slot, removes);
-        if stays_queued(seat.phase, removes) {
-            keep(&mut self.kept, slot, seat.due, seat.number);
+        let keeps = stays_queued(seat.phase, self.policies.removes);
+        let entry = Entry {
+            due: seat.due,
+            number: seat.number,
+            slot,
+        };
+        self.slots.cancel(slot, seat, keeps);
+        if keeps {
+            self.kept.insert(entry);
         }
         self.queue.remove(slot);
     }
-}
-
-/// Adds the entry of a task to those that are kept.
-#[inline(never)]
-fn keep<A: Allocator>(kept: &mut SlotQueue<u64, A>, slot: u32, due: u64, rank: u64)
-    requires known { slot < length kept.old.entries }
-    requires absent { key_in kept.old.entries slot ≡ None }
-    ensures inserted { kept.new.entries
-        ≡ slice_set kept.old.entries slot (Some (record { due = due; rank = rank })) }
-{
-    kept.insert(Entry { due, rank, slot });
 }
 
 /// What a cancel does to a task.
@@ -141,20 +135,6 @@ fn effect_on(seat: &Seat) -> CancelEffect
     match seat.phase {
         Stage::Waiting | Stage::Running => CancelEffect::Yes,
         Stage::Vacant | Stage::Done | Stage::Failed | Stage::Dropped => CancelEffect::No,
-    }
-}
-
-/// Cancels the task in a slot, where cancelled tasks maybe leave the queue.
-fn cancel_in<A: Allocator>(slots: &mut Vec<Option<Seat>, A>, slot: u32, removes: bool)
-    requires there { (x : seats.Seat) × (slot_of slots.old.items slot ≡ Some x) }
-    ensures { (x : seats.Seat) → slot_of slots.old.items slot ≡ Some x
-        → slots.new.items ≡ slice_set slots.old.items slot (Some (changes.cancelled removes x)) }
-{
-    if let Some(seat) = &mut slots[slot as usize] {
-        seat.cancelled = true;
-        if stays_queued(seat.phase, removes) {
-            seat.kept = true;
-        }
     }
 }
 

@@ -1,18 +1,18 @@
 //! Kept tasks: those that were cancelled while they waited, and still stand in the queue.
 ghost use Rattle.std.specs.Prelude.{◌≡◌, ℕ, ◌<◌, true, List, Some, IfSome, IfNone};
 ghost use Rattle.queue_code.specs.Calls.{Planned};
-ghost use Rattle.executor_core.specs.Histories.{HistoryEntry};
-ghost use Rattle.executor_core.specs.declared.types.Happening.TheVariants as happening;
+ghost use Rattle.executor_model.specs.Histories.{HistoryEntry};
+ghost use Rattle.executor_model.specs.declared.types.Happening.TheVariants as happening;
 ghost use Rattle.task_table.specs.Changes as changes;
 ghost use Rattle.task_table.specs.declared.seat.Seat as seats;
 ghost use Rattle.delay_queue.specs.Queues as queues;
 
-use crate::seat::Seat;
-use crate::table::TaskTable;
-use slot_queue::Entry;
+use crate::queues::{Entry, TaskQueue};
+use crate::slots::Slots;
+use crate::table::Table;
 use std::alloc::Allocator;
 
-impl<A: Allocator> TaskTable<A> {
+impl<S: Slots, Q: TaskQueue, A: Allocator> Table<S, Q, A> {
     ghost use Rattle.task_table.specs.Tables.{StandsBefore, IsNextCall};
     ghost use Rattle.task_table.specs.Seats.{slot_of};
     ghost use Rattle.task_table.specs.Firsts.{NoneMet, NoneKept};
@@ -36,7 +36,7 @@ impl<A: Allocator> TaskTable<A> {
         ensures none { IfNone result ((self.new ≡ self.old) × NoneMet self.old) }
     {
         let entry = self.first_kept()?;
-        let met = self.meets(entry.due, entry.rank);
+        let met = self.meets(entry.due, entry.number);
         if met {
             self.drop_at(entry.slot);
             return Some(entry.slot);
@@ -63,13 +63,13 @@ impl<A: Allocator> TaskTable<A> {
     }
 
     /// The entry of the first kept task, and `None` where none is kept.
-    fn first_kept(&self) -> Option<Entry<u64>>
+    fn first_kept(&self) -> Option<Entry>
         ensures first { IfSome result
-            (λ entry. HeadsKept self.now entry.slot entry.due entry.rank) }
+            (λ entry. HeadsKept self.now entry.slot entry.due entry.number) }
         ensures none { IfNone result (NoneKept self.now) }
         ensures formed { IsFormed self.now }
     {
-        self.kept.peek()
+        self.kept.first()
     }
 
     /// Whether the next start meets a kept task of this due moment and number, if it is not refused.
@@ -78,7 +78,7 @@ impl<A: Allocator> TaskTable<A> {
     {
         let now = self.now();
         match self.first_due() {
-            Some(first) => due <= now && comes_before(due, number, first.due, first.rank),
+            Some(first) => due <= now && comes_before(due, number, first.due, first.number),
             None => due <= now,
         }
     }
@@ -92,10 +92,7 @@ impl<A: Allocator> TaskTable<A> {
     {
         let seat = self.held(slot);
         self.kept.remove(slot);
-        self.slots[slot as usize] = Some(Seat {
-            kept: false,
-            ..seat
-        });
+        self.slots.unkeep(slot, seat);
     }
 }
 

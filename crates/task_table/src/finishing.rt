@@ -1,21 +1,22 @@
 //! What the finishes of the workers do to a table.
-ghost use Rattle.std.specs.Prelude.{◌≡◌, ℕ, ◌+◌, ◌<◌, ◌^◌, ◌≤◌, Bool, Some, None, slice_index_or, IfOk, IfErr, OnErr};
+ghost use Rattle.std.specs.Prelude.{◌≡◌, ◌<◌, ◌≤◌, Bool, Some, None, slice_index_or, IfOk, IfErr, OnErr};
 ghost use Rattle.sched_time.specs.Times.{longest};
 ghost use Rattle.sched_time.specs.declared.timing.Ending as endings;
-ghost use Rattle.executor_core.specs.Answers as replies;
-ghost use Rattle.executor_core.specs.State.{due_past};
+ghost use Rattle.executor_model.specs.Answers as replies;
+ghost use Rattle.executor_model.specs.State.{due_past};
 ghost use Rattle.task_table.specs.Changes as changes;
 ghost use Rattle.task_table.specs.own.Queues as own_queues;
 
 use crate::answers::Ended;
+use crate::queues::{Entry, TaskQueue};
 use crate::seat::{Seat, TaskRef};
-use crate::table::TaskTable;
-use executor_core::{EventError, Outcome, Stage};
+use crate::slots::Slots;
+use crate::table::Table;
+use executor_model::{EventError, Outcome};
 use sched_time::{Ending, Timing, next_due};
-use slot_queue::Entry;
 use std::alloc::Allocator;
 
-impl<A: Allocator> TaskTable<A> {
+impl<S: Slots, Q: TaskQueue, A: Allocator> Table<S, Q, A> {
     ghost use Rattle.task_table.specs.Tables.{workers_of};
     ghost use Rattle.task_table.specs.Seats.{slot_of};
     ghost use Rattle.task_table.specs.Runs.{IsFinishError, Ends, FailsFinish};
@@ -111,11 +112,11 @@ impl<A: Allocator> TaskTable<A> {
             × (outcome ≡ replies.outcome_in seat.cancelled stops seat.timing due ending) }
         ensures { self.new ≡ changes.finished self.old worker slot seat outcome due }
     {
-        let rank = seat.number;
-        self.slots[slot as usize] = Some(seat_after(seat, outcome, due));
+        let number = seat.number;
+        self.slots.end(slot, seat, outcome, due);
         self.work[worker as usize] = None;
         if is_again(outcome) {
-            self.queue.insert(Entry { due, rank, slot });
+            self.queue.insert(Entry { due, number, slot });
         }
     }
 }
@@ -162,29 +163,6 @@ fn next_run(stops: bool, due: u64) -> Outcome
     }
 }
 
-/// A task once its run ended with this outcome, and which holds this due moment from then on.
-fn seat_after(seat: Seat, outcome: Outcome, due: u64) -> Seat
-    requires { seat.run + 1 < 2 ^ 64 }
-    ensures { result ≡ changes.ended outcome due seat }
-{
-    let seat = Seat { due, ..seat };
-    match outcome {
-        Outcome::Done(_) => in_phase(seat, Stage::Done),
-        Outcome::Failed(_) => in_phase(seat, Stage::Failed),
-        Outcome::Dropped => in_phase(seat, Stage::Dropped),
-        Outcome::Ended => Seat {
-            phase: Stage::Dropped,
-            cancelled: true,
-            ..seat
-        },
-        Outcome::Again(_) => Seat {
-            phase: Stage::Waiting,
-            run: seat.run + 1,
-            ..seat
-        },
-    }
-}
-
 /// Whether a task goes on after a run with this outcome.
 fn is_again(outcome: Outcome) -> bool
     ensures { result ≡ own_queues.is_again outcome }
@@ -193,11 +171,4 @@ fn is_again(outcome: Outcome) -> bool
         Outcome::Again(_) => true,
         Outcome::Done(_) | Outcome::Failed(_) | Outcome::Dropped | Outcome::Ended => false,
     }
-}
-
-/// A task in another phase.
-fn in_phase(seat: Seat, phase: Stage) -> Seat
-    ensures { result ≡ record seat { phase = phase } }
-{
-    Seat { phase, ..seat }
 }

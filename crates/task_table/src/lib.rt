@@ -15,9 +15,15 @@
 //! assert_eq!(rt; (table.now(), table.next_due()), (5, None)); // no task waits
 //! ```
 //!
-//! A task comes into an empty slot by [`admit`](TaskTable::admit), is run from a [`start`](TaskTable::start) to a
-//! [`finish`](TaskTable::finish), and leaves its slot by [`release`](TaskTable::release). These calls ask for what the one above
+//! A task comes into an empty slot by [`admit`](Table::admit), is run from a [`start`](Table::start) to a
+//! [`finish`](Table::finish), and leaves its slot by [`release`](TaskTable::release). These calls ask for what the one above
 //! keeps, as that the slot is empty and the number is new.
+//!
+//! # Other slots
+//!
+//! The steps are those of a [`Table`], whatever keeps its tasks and its queues: [`Slots`] and [`TaskQueue`] are what it asks of
+//! these. A `TaskTable` is one with [`Seats`], which hold whole tasks and can be emptied, and with two [`NumberedQueue`]s. Its
+//! `new`, `reserve`, `release` and `seats` are its own: no other crate makes a `Table` of other slots.
 //!
 //! # Behaviour
 //!
@@ -29,9 +35,9 @@
 //!
 //! Of the tasks that wait, a start gets the one that was due first, and of those due at one moment the one that was submitted
 //! first. A task that is cancelled while it waits is kept in the queue, unless the policy says that cancelled tasks leave it:
-//! no start gets it, but it counts for [`ask`](TaskTable::ask) until a start meets it, or a call sweeps. Before a start the one
-//! above drops those that it meets, by [`drop_met`](TaskTable::drop_met), and before a call that sweeps all, by
-//! [`drop_kept`](TaskTable::drop_kept), each until the answer is `None`; so it learns the slot of each, and can release it. The
+//! no start gets it, but it counts for [`ask`](Table::ask) until a start meets it, or a call sweeps. Before a start the one
+//! above drops those that it meets, by [`drop_met`](Table::drop_met), and before a call that sweeps all, by
+//! [`drop_kept`](Table::drop_kept), each until the answer is `None`; so it learns the slot of each, and can release it. The
 //! calls that sweep put the tasks that they end into a list, ascending by number.
 //!
 //! # Moments
@@ -43,12 +49,12 @@
 //!
 //! [`TaskTable::new`] and [`reserve`](TaskTable::reserve) fail with `AllocError` where the allocator has no room, and a table
 //! whose `reserve` failed is as it was. A clock that goes back or too far, a start by a worker that works, a finish by one that
-//! does not, and either by a worker that there is not, are answered by an [`EventError`](executor_core::EventError). A start has
+//! does not, and either by a worker that there is not, are answered by an [`EventError`](executor_model::EventError). A start has
 //! [`StartError::Full`] where the task has had 2^64 - 1 runs. After an error the table is as it was. No other call can fail.
 //!
 //! # Memory and cost
 //!
-//! A table takes memory for each slot (what it holds, and an entry in each of two queues) and for each worker, and only in `new`
+//! A `TaskTable` takes memory for each slot (what it holds, and an entry in each of two queues) and for each worker, and only in `new`
 //! and `reserve`. A call that admits, starts, finishes, cancels or drops a task takes the time of a change of a binary heap. A
 //! sweep goes over all slots, and sorts the tasks that it ends; `ask` goes over the workers; `reserve` may move all slots. All
 //! other calls take constant time.
@@ -59,12 +65,20 @@ mod asking;
 mod cancelling;
 mod dropping;
 mod finishing;
+mod numbered;
+mod queues;
 mod seat;
+mod seats;
 mod shutting;
+mod slots;
 mod starting;
 mod sweeping;
 mod table;
 
 pub use answers::{Asked, Begun, Ended, StartError};
+pub use numbered::NumberedQueue;
+pub use queues::{Entry, TaskQueue};
 pub use seat::{Seat, TaskRef};
-pub use table::TaskTable;
+pub use seats::Seats;
+pub use slots::Slots;
+pub use table::{Table, TaskTable};

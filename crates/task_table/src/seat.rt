@@ -1,5 +1,5 @@
 //! What is held of a task in its slot, and what names it.
-use executor_core::Stage;
+use executor_model::Stage;
 use sched_time::Timing;
 
 /// A task in its slot.

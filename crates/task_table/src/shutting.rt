@@ -3,16 +3,18 @@ ghost use Rattle.std.specs.Prelude.{◌≡◌, ◌≤◌, not, true, false, [], 
 ghost use Rattle.queue_code.specs.declared.call.CodeCall.TheVariants as call;
 ghost use Rattle.sched_time.specs.Times.{longest};
 ghost use Rattle.sched_time.specs.Policies as settings;
-ghost use Rattle.executor_core.specs.Answers as replies;
-ghost use Rattle.executor_core.specs.declared.types.Answer.TheVariants as answer;
+ghost use Rattle.executor_model.specs.Answers as replies;
+ghost use Rattle.executor_model.specs.declared.types.Answer.TheVariants as answer;
 ghost use Rattle.task_table.specs.Changes as changes;
 
+use crate::queues::TaskQueue;
 use crate::seat::TaskRef;
-use crate::table::TaskTable;
+use crate::slots::Slots;
+use crate::table::Table;
 use sched_time::Which;
 use std::alloc::Allocator;
 
-impl<A: Allocator> TaskTable<A> {
+impl<S: Slots, Q: TaskQueue, A: Allocator> Table<S, Q, A> {
     ghost use Rattle.task_table.specs.Tables.{CallSteps, CallStepsBefore};
     ghost use Rattle.task_table.specs.Firsts.{NoneKept};
     ghost use Rattle.task_table.specs.Endings.{SweepEnds, numbers_of};
@@ -26,7 +28,7 @@ impl<A: Allocator> TaskTable<A> {
     }
 
     /// A call sets a policy, at the moment `at`. Where that sweeps, `ends` holds the tasks that it ends, ascending by number,
-    /// and else none; no task was kept before it then, as [`drop_kept`](TaskTable::drop_kept) tells.
+    /// and else none; no task was kept before it then, as [`drop_kept`](Table::drop_kept) tells.
     ///
     /// `ends` has room for as many tasks as there are slots, and the room stays.
     pub fn set_policy<B: Allocator>(
@@ -72,7 +74,7 @@ impl<A: Allocator> TaskTable<A> {
 
     /// A call shuts the executor down, at the moment `at`, and says whether it was not shut before. Then `ends` holds the tasks
     /// that it ends, ascending by number, and else none; no task was kept before it then, as
-    /// [`drop_kept`](TaskTable::drop_kept) tells.
+    /// [`drop_kept`](Table::drop_kept) tells.
     ///
     /// `ends` has room for as many tasks as there are slots, and the room stays.
     pub fn shut_down<B: Allocator>(&mut self, at: u64, ends: &mut Vec<TaskRef, B>) -> bool
@@ -105,7 +107,7 @@ impl<A: Allocator> TaskTable<A> {
     }
 
     /// A call shuts the executor down at once, at the moment `at`: `ends` holds the tasks that it ends, ascending by number.
-    /// No task was kept before it, as [`drop_kept`](TaskTable::drop_kept) tells.
+    /// No task was kept before it, as [`drop_kept`](Table::drop_kept) tells.
     ///
     /// `ends` has room for as many tasks as there are slots, and the room stays.
     pub fn shut_down_now<B: Allocator>(&mut self, at: u64, ends: &mut Vec<TaskRef, B>)

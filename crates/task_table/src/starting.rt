@@ -1,24 +1,25 @@
 //! What the clock and the starts of the workers do to a table.
-ghost use Rattle.std.specs.Prelude.{◌≡◌, ℕ, ◌+◌, ◌<◌, ◌^◌, ◌≤◌, ◌↔◌, true, false, Some, None, slice_index_or, IsOk, IfOk, IfErr, OnErr, IfSome, IfNone};
-ghost use Rattle.executor_core.specs.Answers.{bare, is_accepted};
-ghost use Rattle.executor_core.specs.declared.types.Answer.TheVariants as answer;
-ghost use Rattle.executor_core.specs.declared.types.Happening.TheVariants as happening;
+ghost use Rattle.std.specs.Prelude.{◌≡◌, ◌<◌, ◌^◌, ◌↔◌, true, false, Some, None, IsOk, IfOk, IfErr, OnErr, IfSome, IfNone};
+ghost use Rattle.executor_model.specs.Answers.{bare, is_accepted};
+ghost use Rattle.executor_model.specs.declared.types.Answer.TheVariants as answer;
+ghost use Rattle.executor_model.specs.declared.types.Happening.TheVariants as happening;
 ghost use Rattle.task_table.specs.Changes as changes;
 ghost use Rattle.task_table.specs.declared.seat.Seat as seats;
 
 use crate::answers::{Begun, StartError};
+use crate::queues::{Entry, TaskQueue};
 use crate::seat::{Seat, TaskRef};
-use crate::table::TaskTable;
-use executor_core::{EventError, Stage};
+use crate::slots::Slots;
+use crate::table::Table;
+use executor_model::EventError;
 use sched_time::LONGEST;
-use slot_queue::Entry;
 use std::alloc::Allocator;
 
-impl<A: Allocator> TaskTable<A> {
+impl<S: Slots, Q: TaskQueue, A: Allocator> Table<S, Q, A> {
     ghost use Rattle.task_table.specs.Tables.{EventSteps};
     ghost use Rattle.task_table.specs.Seats.{slot_of};
     ghost use Rattle.task_table.specs.Firsts.{IsFirstDue, NoneDue, NoneMet, IsEarliest, NoneWaits};
-    ghost use Rattle.task_table.specs.Runs.{IsFree, IsFull, IsStartError, Starts, FailsStart, FailsClock};
+    ghost use Rattle.task_table.specs.Runs.{IsFree, IsFull, MayRun, IsStartError, Starts, FailsStart, FailsClock};
     ghost use Rattle.task_table.specs.own.Formed.{IsFormed};
     ghost use Rattle.task_table.specs.own.Heads.{HeadsQueue};
 
@@ -26,7 +27,7 @@ impl<A: Allocator> TaskTable<A> {
     ///
     /// # Errors
     ///
-    /// [`EventError::Backward`] where that is before [`now`](TaskTable::now), and [`EventError::TooFar`] where it is past
+    /// [`EventError::Backward`] where that is before [`now`](Table::now), and [`EventError::TooFar`] where it is past
     /// 2^62. The table is then as it was.
     pub fn clock(&mut self, moment: u64) -> Result<(), EventError>
         ensures accepted { IsOk result ↔ (is_accepted self.old.moment moment ≡ true) }
@@ -53,18 +54,18 @@ impl<A: Allocator> TaskTable<A> {
         ensures first { IfSome result (λ due. IsEarliest self.now due) }
         ensures none { IfNone result (NoneWaits self.now) }
     {
-        let least = self.queue.peek()?;
+        let least = self.queue.first()?;
         Some(least.due)
     }
 
     /// The entry of the first task that waits and is due, and `None` where none is.
-    pub(crate) fn first_due(&self) -> Option<Entry<u64>>
+    pub(crate) fn first_due(&self) -> Option<Entry>
         ensures first { IfSome result
-            (λ entry. HeadsQueue self.now entry.slot entry.due entry.rank) }
+            (λ entry. HeadsQueue self.now entry.slot entry.due entry.number) }
         ensures none { IfNone result (NoneDue self.now) }
         ensures formed { IsFormed self.now }
     {
-        let first = self.queue.peek()?;
+        let first = self.queue.first()?;
         if first.due > self.moment {
             return None;
         }
@@ -99,7 +100,8 @@ impl<A: Allocator> TaskTable<A> {
 
     /// A worker asks for work: it begins a run of the first task that is due, or none, where none is.
     ///
-    /// The kept tasks that it meets were dropped before, as [`drop_met`](TaskTable::drop_met) tells, unless it is refused.
+    /// The kept tasks that it meets were dropped before, as [`drop_met`](Table::drop_met) tells, unless it is refused. The run of the
+    /// first task that is due may be under way, as one may in a [`TaskTable`](crate::TaskTable) that has a number left for the next.
     ///
     /// # Errors
     ///
@@ -107,7 +109,8 @@ impl<A: Allocator> TaskTable<A> {
     /// the first task that is due has had 2^64 - 1 runs. The table is then as it was.
     #[inline(always)]
     pub fn start(&mut self, worker: u8) -> Result<Option<Begun>, StartError>
-        requires { IsFree self.old worker → NoneMet self.old }
+        requires met { IsFree self.old worker → NoneMet self.old }
+        requires runs { MayRun S.may_run self.old }
         ensures started { IfOk result (λ begun. Starts self.old self.new worker begun) }
         ensures unchanged { OnErr result (self.new ≡ self.old) }
         ensures failed { IfErr result (λ error. FailsStart self.old worker error) }
@@ -123,6 +126,7 @@ impl<A: Allocator> TaskTable<A> {
     fn start_free(&mut self, worker: u8) -> Result<Option<Begun>, StartError>
         requires free { IsFree self.old worker }
         requires met { NoneMet self.old }
+        requires runs { MayRun S.may_run self.old }
         ensures started { IfOk result (λ begun. Starts self.old self.new worker begun) }
         ensures unchanged { OnErr result (self.new ≡ self.old) }
         ensures failed { IfErr result (λ error. FailsStart self.old worker error) }
@@ -138,6 +142,7 @@ impl<A: Allocator> TaskTable<A> {
     fn start_first(&mut self, worker: u8, slot: u32) -> Result<Option<Begun>, StartError>
         requires free { IsFree self.old worker }
         requires met { NoneMet self.old }
+        requires runs { MayRun S.may_run self.old }
         requires first { (x : seats.Seat) × IsFirstDue self.old slot x }
         ensures started { IfOk result (λ begun. Starts self.old self.new worker begun) }
         ensures unchanged { OnErr result (self.new ≡ self.old) }
@@ -161,7 +166,7 @@ impl<A: Allocator> TaskTable<A> {
         ensures held { slot_of self.now.slots slot ≡ Some result }
         ensures formed { IsFormed self.now }
     {
-        match self.slots[slot as usize] {
+        match self.slots.get(slot) {
             Some(seat) => seat,
             None => unreachable!(),
         }
@@ -172,11 +177,10 @@ impl<A: Allocator> TaskTable<A> {
     fn begin(&mut self, worker: u8, slot: u32, seat: Seat)
         requires free { IsFree self.old worker }
         requires first { IsFirstDue self.old slot seat }
-        requires room { seat.run + 1 < 2 ^ 64 }
+        requires runs { S.may_run seat.run ≡ true }
         ensures { self.new ≡ changes.started self.old worker slot seat }
     {
-        let phase = Stage::Running;
-        self.slots[slot as usize] = Some(Seat { phase, ..seat });
+        self.slots.begin(slot, seat);
         self.queue.remove(slot);
         self.work[worker as usize] = Some(slot);
     }

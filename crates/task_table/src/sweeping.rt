@@ -1,17 +1,19 @@
 //! The tasks that a sweep ends.
-ghost use Rattle.std.specs.Prelude.{◌≡◌, ℕ, ◌<◌, ◌≤◌, ◌++◌, ◌^◌, true, [], Some, length, vec_capacity};
+ghost use Rattle.std.specs.Prelude.{◌≡◌, ◌<◌, ◌≤◌, ◌++◌, true, false, [], Some, length, vec_capacity};
 ghost use Rattle.std.specs.List.Sorted.{IsPermutation, IsNonDecreasingBy};
-ghost use Rattle.executor_core.specs.Answers as replies;
+ghost use Rattle.executor_model.specs.Answers as replies;
 ghost use Rattle.task_table.specs.Changes as changes;
 ghost use Rattle.task_table.specs.declared.seat.TaskRef as refs;
 
 use crate::cancelling::is_waiting;
+use crate::queues::TaskQueue;
 use crate::seat::{Seat, TaskRef};
-use crate::table::TaskTable;
+use crate::slots::Slots;
+use crate::table::Table;
 use sched_time::{Policies, Timing};
 use std::alloc::Allocator;
 
-impl<A: Allocator> TaskTable<A> {
+impl<S: Slots, Q: TaskQueue, A: Allocator> Table<S, Q, A> {
     ghost use Rattle.task_table.specs.Seats.{slot_of};
     ghost use Rattle.task_table.specs.Endings.{SweepEnds};
     ghost use Rattle.task_table.specs.own.Formed.{IsFormed};
@@ -69,14 +71,12 @@ impl<A: Allocator> TaskTable<A> {
 
     /// Cancels the task in a slot, and takes it out of the queue.
     fn end_seat(&mut self, slot: u32, seat: Seat)
-        requires { slot_of self.old.slots slot ≡ Some seat }
+        requires there { slot_of self.old.slots slot ≡ Some seat }
+        requires live { seat.cancelled ≡ false }
         ensures { self.new ≡ changes.put self.old slot (record seat { cancelled = true }) }
     {
         self.queue.remove(slot);
-        self.slots[slot as usize] = Some(Seat {
-            cancelled: true,
-            ..seat
-        });
+        self.slots.cancel(slot, seat, false);
     }
 }
 

@@ -4,34 +4,36 @@ ghost use Rattle.queue_code.specs.Calls.{Planned, IsTimed};
 ghost use Rattle.queue_code.specs.declared.call.CodeCall.TheVariants as call;
 ghost use Rattle.sched_time.specs.Times.{longest};
 ghost use Rattle.sched_time.specs.declared.timing.Timing as timings;
-ghost use Rattle.executor_core.specs.Counts.{IsWorkerCount};
-ghost use Rattle.executor_core.specs.Answers.{bare, kind_of};
-ghost use Rattle.executor_core.specs.Histories.{HistoryEntry};
-ghost use Rattle.executor_core.specs.declared.types.Answer.TheVariants as answer;
-ghost use Rattle.executor_core.specs.declared.types.Refusal.TheVariants as refusal;
-ghost use Rattle.executor_core.specs.declared.types.Happening as happenings;
+ghost use Rattle.executor_model.specs.Counts.{IsWorkerCount};
+ghost use Rattle.executor_model.specs.Answers.{bare, kind_of};
+ghost use Rattle.executor_model.specs.Histories.{HistoryEntry};
+ghost use Rattle.executor_model.specs.declared.types.Answer.TheVariants as answer;
+ghost use Rattle.executor_model.specs.declared.types.Refusal.TheVariants as refusal;
+ghost use Rattle.executor_model.specs.declared.types.Happening as happenings;
 
+use crate::numbered::NumberedQueue;
+use crate::queues::{Entry, TaskQueue};
 use crate::seat::Seat;
-use executor_core::Stage;
+use crate::seats::Seats;
+use crate::slots::Slots;
 use sched_time::{Policies, Timing};
-use slot_queue::{Entry, SlotQueue};
 use std::alloc::{AllocError, Allocator};
 use std::marker::Model;
 
-/// The tasks of an executor of which something may come, in slots, and the work of its workers.
+/// The tasks of an executor, in slots, and the work of its workers, whatever keeps the slots and the queues.
 ///
 /// A contract sees it as a [`TableView`](../../specs/Tables.antt): the moment, what each slot holds, the slot of each
 /// worker's task, the policies, and whether the executor is shut, and stopped.
 #[derive(Drop)]
-pub struct TaskTable<A: Allocator> {
+pub struct Table<S: Slots, Q: TaskQueue, A: Allocator> {
     pub(crate) moment: u64,
-    pub(crate) slots: Vec<Option<Seat>, A>,
+    pub(crate) slots: S,
     /// The slot of each worker's task.
     pub(crate) work: Vec<Option<u32>, A>,
-    /// The tasks that wait, by slot. The rank of each is its number.
-    pub(crate) queue: SlotQueue<u64, A>,
+    /// The tasks that wait, by slot.
+    pub(crate) queue: Q,
     /// The tasks that were cancelled while they waited, and still stand in the queue.
-    pub(crate) kept: SlotQueue<u64, A>,
+    pub(crate) kept: Q,
     pub(crate) policies: Policies,
     /// A call to shut down was made, orderly or at once.
     pub(crate) shut: bool,
@@ -39,21 +41,24 @@ pub struct TaskTable<A: Allocator> {
     pub(crate) stopped: bool,
 }
 
-impl<A: Allocator> Model for TaskTable<A> {
+/// A table whose slots hold whole tasks, can be emptied, and grow in number.
+pub type TaskTable<A> = Table<Seats<A>, NumberedQueue<A>, A>;
+
+impl<S: Slots, Q: TaskQueue, A: Allocator> Model for Table<S, Q, A> {
     ghost use Rattle.task_table.specs.Tables.{TableView};
     ghost use Rattle.task_table.specs.own.Queues.{IsTable};
 
     ghost Value = { TableView };
 
-    ghost view = { λ t. record { moment = t.moment; slots = t.slots.items; work = t.work.items; policies = t.policies; shut = t.shut; stopped = t.stopped } };
+    ghost view = { λ t. record { moment = t.moment; slots = S.seats t.slots; work = t.work.items; policies = t.policies; shut = t.shut; stopped = t.stopped } };
 
-    ghost invariant = { λ t. IsTable (record { moment = t.moment; slots = t.slots.items; work = t.work.items; policies = t.policies; shut = t.shut; stopped = t.stopped }) t.queue.entries t.kept.entries };
+    ghost invariant = { λ t. IsTable Q.admits S.may_run (record { moment = t.moment; slots = S.seats t.slots; work = t.work.items; policies = t.policies; shut = t.shut; stopped = t.stopped }) (Q.keys t.queue) (Q.keys t.kept) (Q.room t.queue) (Q.room t.kept) };
 }
 
 impl<A: Allocator> TaskTable<A> {
-    ghost use Rattle.task_table.specs.Tables.{workers_of, Stands, StandsBefore, CallSteps};
-    ghost use Rattle.task_table.specs.Seats.{slot_of, task_in, is_alive, IsNew};
-    ghost use Rattle.task_table.specs.Changes.{admitted, at_moment, emptied, grown};
+    ghost use Rattle.task_table.specs.Tables.{workers_of, Stands, StandsBefore};
+    ghost use Rattle.task_table.specs.Seats.{slot_of, task_in, is_alive};
+    ghost use Rattle.task_table.specs.Changes.{emptied, grown};
 
     /// A table of no slots before anything happened, for 1 to 64 workers.
     ///
@@ -70,11 +75,11 @@ impl<A: Allocator> TaskTable<A> {
     {
         let mut work = Vec::with_capacity(alloc, workers as usize)?;
         work.resize(workers as usize, None)?;
-        let queue = SlotQueue::new(alloc, 0).map_err(|_| AllocError)?;
-        let kept = SlotQueue::new(alloc, 0).map_err(|_| AllocError)?;
-        Ok(TaskTable {
+        let queue = NumberedQueue::new(alloc)?;
+        let kept = NumberedQueue::new(alloc)?;
+        Ok(Table {
             moment: 0,
-            slots: Vec::new(alloc),
+            slots: Seats::new(alloc),
             work,
             queue,
             kept,
@@ -82,59 +87,6 @@ impl<A: Allocator> TaskTable<A> {
             shut: false,
             stopped: false,
         })
-    }
-
-    /// How many workers there are: those from 0 to one less.
-    pub fn workers(&self) -> usize
-        ensures { result ≡ workers_of self.now }
-    {
-        self.work.len()
-    }
-
-    /// How many slots there are: those from 0 to one less.
-    pub fn slots(&self) -> usize
-        ensures { result ≡ length self.now.slots }
-    {
-        self.slots.len()
-    }
-
-    /// What a slot holds, and `None` where it is empty or there is none of this number.
-    pub fn seat(&self, slot: u32) -> Option<Seat>
-        ensures { result ≡ slot_of self.now.slots slot }
-    {
-        match self.slots.get(slot as usize) {
-            Some(seat) => *seat,
-            None => None,
-        }
-    }
-
-    /// What each slot holds.
-    pub fn seats(&self) -> &[Option<Seat>]
-        ensures { result.now ≡ self.now.slots }
-    {
-        &self.slots
-    }
-
-    /// The moment, 0 to 2^62 nanoseconds: the greatest of the accepted clocks and the calls made.
-    pub fn now(&self) -> u64
-        ensures value { result ≡ self.now.moment }
-        ensures limit { result ≤ longest }
-    {
-        self.moment
-    }
-
-    /// The policies that are set.
-    pub fn policies(&self) -> Policies
-        ensures { result ≡ self.now.policies }
-    {
-        self.policies
-    }
-
-    /// Whether a call to shut down was made, orderly or at once.
-    pub fn is_shut(&self) -> bool
-        ensures { result ≡ self.now.shut }
-    {
-        self.shut
     }
 
     /// Makes room, so that there are at least `slots` slots. The new ones are empty.
@@ -160,22 +112,94 @@ impl<A: Allocator> TaskTable<A> {
         if self.kept.reserve(slots).is_err() {
             return Err(AllocError);
         }
-        if self.slots.resize(count, None).is_err() {
+        if self.slots.reserve(count).is_err() {
             return Err(AllocError);
         }
         Ok(())
     }
 
+    /// Empties a slot, of whose task nothing may come any more.
+    pub fn release(&mut self, slot: u32)
+        requires { (x : Seat) × (slot_of self.old.slots slot ≡ Some x)
+            × (is_alive (task_in x) ≡ false) }
+        ensures slots { self.new ≡ emptied self.old slot }
+        ensures stands { (calls : List Planned) (past : List HistoryEntry)
+            → Stands self.old calls past → Stands self.new calls past }
+        ensures stands_before { (calls : List Planned) (past : List HistoryEntry)
+            (y : happenings.Happening) → StandsBefore self.old calls past y
+            → StandsBefore self.new calls past y }
+    {
+        self.slots.release(slot);
+    }
+
+    /// What each slot holds.
+    pub fn seats(&self) -> &[Option<Seat>]
+        ensures { result.now ≡ self.now.slots }
+    {
+        self.slots.all()
+    }
+}
+
+impl<S: Slots, Q: TaskQueue, A: Allocator> Table<S, Q, A> {
+    ghost use Rattle.task_table.specs.Tables.{workers_of, CallSteps};
+    ghost use Rattle.task_table.specs.Seats.{slot_of, IsNew};
+    ghost use Rattle.task_table.specs.Changes.{admitted, at_moment};
+
+    /// How many workers there are: those from 0 to one less.
+    pub fn workers(&self) -> usize
+        ensures { result ≡ workers_of self.now }
+    {
+        self.work.len()
+    }
+
+    /// How many slots there are: those from 0 to one less.
+    pub fn slots(&self) -> usize
+        ensures { result ≡ length self.now.slots }
+    {
+        self.slots.len()
+    }
+
+    /// What a slot holds, and `None` where it is empty or there is none of this number.
+    pub fn seat(&self, slot: u32) -> Option<Seat>
+        ensures { result ≡ slot_of self.now.slots slot }
+    {
+        self.slots.get(slot)
+    }
+
+    /// The moment, 0 to 2^62 nanoseconds: the greatest of the accepted clocks and the calls made.
+    pub fn now(&self) -> u64
+        ensures value { result ≡ self.now.moment }
+        ensures limit { result ≤ longest }
+    {
+        self.moment
+    }
+
+    /// The policies that are set.
+    pub fn policies(&self) -> Policies
+        ensures { result ≡ self.now.policies }
+    {
+        self.policies
+    }
+
+    /// Whether a call to shut down was made, orderly or at once.
+    pub fn is_shut(&self) -> bool
+        ensures { result ≡ self.now.shut }
+    {
+        self.shut
+    }
+
     /// A call submits a task, which comes into an empty slot: it waits for its first run, `delay` nanoseconds after the moment
     /// `at` of the call. The answer is its due moment, at most 2^63 nanoseconds.
     ///
-    /// `delay` is at most 2^62 nanoseconds, as the period or the fixed delay of `timing` is.
+    /// `delay` is at most 2^62 nanoseconds, as the period or the fixed delay of `timing` is. Slots and queue admit the number there;
+    /// those of a [`TaskTable`] admit each.
     #[inline(always)]
     pub fn admit(&mut self, slot: u32, number: u64, at: u64, timing: Timing, delay: u64) -> u64
         requires unshut { self.old.shut ≡ false }
         requires slot { slot < length self.old.slots }
         requires empty { slot_of self.old.slots slot ≡ None }
         requires number { IsNew self.old.slots number }
+        requires admits { (S.admits slot number ≡ true) × (Q.admits slot number ≡ true) }
         requires moment { self.old.moment ≤ at }
         requires limit { at ≤ longest }
         requires spans { (delay ≤ longest) × IsTimed timing }
@@ -185,19 +209,9 @@ impl<A: Allocator> TaskTable<A> {
             (bare (answer.Submit number (kind_of timing) result)) }
     {
         let due = at + delay;
-        let seat = Seat {
-            number,
-            phase: Stage::Waiting,
-            run: 0,
-            due,
-            timing,
-            cancelled: false,
-            kept: false,
-        };
         self.moment = at;
-        self.slots[slot as usize] = Some(seat);
-        let rank = number;
-        self.queue.insert(Entry { due, rank, slot });
+        self.slots.admit(slot, number, timing, due);
+        self.queue.insert(Entry { due, number, slot });
         due
     }
 
@@ -212,19 +226,5 @@ impl<A: Allocator> TaskTable<A> {
             (bare (answer.Refuse number refusal.Rejected)) }
     {
         self.moment = at;
-    }
-
-    /// Empties a slot, of whose task nothing may come any more.
-    pub fn release(&mut self, slot: u32)
-        requires { (x : Seat) × (slot_of self.old.slots slot ≡ Some x)
-            × (is_alive (task_in x) ≡ false) }
-        ensures slots { self.new ≡ emptied self.old slot }
-        ensures stands { (calls : List Planned) (past : List HistoryEntry)
-            → Stands self.old calls past → Stands self.new calls past }
-        ensures stands_before { (calls : List Planned) (past : List HistoryEntry)
-            (y : happenings.Happening) → StandsBefore self.old calls past y
-            → StandsBefore self.new calls past y }
-    {
-        self.slots[slot as usize] = None;
     }
 }

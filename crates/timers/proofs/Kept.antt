@@ -12,7 +12,7 @@ use Rattle.task_table.specs.declared.seat.Seat.{Seat}
 use Rattle.task_table.specs.declared.seat.TaskRef.{TaskRef}
 use Rattle.task_table.specs.Seats.{slot_of, task_in, waits}
 use Rattle.task_table.specs.Tables.{TableView}
-use Rattle.task_table.proofs.Slots.{slot_within}
+use Rattle.task_table.proofs.Written.{slot_within}
 use Rattle.sched_time.specs.declared.timing.Timing.{Timing}
 use Rattle.live_core.specs.declared.answers.Submitted.{Submitted}
 use Rattle.live_core.specs.declared.answers.Submitted.TheVariants as su

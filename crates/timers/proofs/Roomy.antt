@@ -4,7 +4,7 @@ use Rattle.std.specs.Prelude.{◌-◌, ◌*◌, replicate, slice_index_or, Resul
 use Rattle.std.proofs.lemmas.Bool.{false≢true}
 use Rattle.std.proofs.lemmas.List.{length-append, length-replicate}
 use Rattle.queue_code.specs.Calls.{Planned}
-use Rattle.executor_core.specs.Histories.{HistoryEntry}
+use Rattle.executor_model.specs.Histories.{HistoryEntry}
 use Rattle.sched_time.specs.declared.timing.Timing.{Timing}
 use Rattle.task_table.specs.declared.seat.Seat.{Seat}
 use Rattle.task_table.specs.Seats.{slot_of}

@@ -1,6 +1,6 @@
 //! What the calls answer.
 
-use executor_core::Outcome;
+use executor_model::Outcome;
 use live_core::TaskRef;
 
 /// A run that a worker begins, which has it under way until it finishes.

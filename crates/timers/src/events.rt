@@ -6,7 +6,7 @@ use crate::answers::{Finished, Run};
 use crate::error::{FinishError, PollError};
 use crate::runs::{begin, end};
 use crate::timers::Timers;
-use executor_core::CancelEffect;
+use executor_model::CancelEffect;
 use live_core::{CallError, TaskRef};
 use sched_time::Ending;
 use std::alloc::Allocator;

@@ -5,7 +5,7 @@ ghost use Rattle.timers.specs.own.Runs.{run_of, finished_of};
 
 use crate::clock::show_clock;
 use crate::error::{FinishError, PollError};
-use executor_core::EventError;
+use executor_model::EventError;
 use live_core::{Begun, Ended, ScheduledExecutor, StartError};
 use sched_time::Ending;
 use std::alloc::Allocator;

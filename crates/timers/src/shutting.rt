@@ -2,7 +2,7 @@
 ghost use Rattle.std.specs.Prelude.{◌≡◌, ◌≤◌, length, List, IsOk, OnOk, OnErr, IfOk, IfErr};
 ghost use Rattle.sched_time.specs.Times.{longest};
 ghost use Rattle.queue_code.specs.Calls.{Planned};
-ghost use Rattle.executor_core.specs.Histories.{HistoryEntry};
+ghost use Rattle.executor_model.specs.Histories.{HistoryEntry};
 ghost use Rattle.live_core.specs.declared.error.CallError.TheVariants as call_error;
 
 use crate::room::grow;

@@ -1,7 +1,7 @@
 //! The timers, and what they tell.
 ghost use Rattle.std.specs.Prelude.{◌≡◌, ◌<◌, ◌≤◌, ◌==◌, ◌&&◌, [], true, false, IfOk, IfErr, IfSome, IfNone, OnOk, OnErr, IsOk, length, slice_index_or};
 ghost use Rattle.sched_time.specs.Times.{longest};
-ghost use Rattle.executor_core.specs.Counts.{IsWorkerCount};
+ghost use Rattle.executor_model.specs.Counts.{IsWorkerCount};
 
 use live_core::{MakeError, ScheduledExecutor, TaskRef};
 use sched_time::Policies;

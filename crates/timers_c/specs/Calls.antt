@@ -9,16 +9,16 @@ use Rattle.sched_time.specs.declared.timing.Ending.{Ending}
 use Rattle.sched_time.specs.declared.timing.Timing.{Timing}
 use Rattle.sched_time.specs.declared.timing.Timing.TheVariants as t
 use Rattle.queue_code.specs.Calls.{Planned}
-use Rattle.executor_core.specs.declared.task.Task.{Task}
-use Rattle.executor_core.specs.declared.types.Answer.TheVariants as a
-use Rattle.executor_core.specs.declared.types.CancelEffect.{CancelEffect}
-use Rattle.executor_core.specs.declared.types.Outcome.{Outcome}
-use Rattle.executor_core.specs.declared.types.Outcome.TheVariants as o
-use Rattle.executor_core.specs.Answers.{bare}
-use Rattle.executor_core.specs.Counts.{IsWorkerCount}
-use Rattle.executor_core.specs.Flows.{lines_at}
-use Rattle.executor_core.specs.Histories.{HistoryEntry, happenings}
-use Rattle.executor_core.specs.State.{after}
+use Rattle.executor_model.specs.declared.task.Task.{Task}
+use Rattle.executor_model.specs.declared.types.Answer.TheVariants as a
+use Rattle.executor_model.specs.declared.types.CancelEffect.{CancelEffect}
+use Rattle.executor_model.specs.declared.types.Outcome.{Outcome}
+use Rattle.executor_model.specs.declared.types.Outcome.TheVariants as o
+use Rattle.executor_model.specs.Answers.{bare}
+use Rattle.executor_model.specs.Counts.{IsWorkerCount}
+use Rattle.executor_model.specs.Flows.{lines_at}
+use Rattle.executor_model.specs.Histories.{HistoryEntry, happenings}
+use Rattle.executor_model.specs.State.{after}
 use Rattle.task_table.specs.declared.answers.Asked.{Asked}
 use Rattle.task_table.specs.declared.seat.TaskRef.{TaskRef}
 use Rattle.task_table.specs.Changes.{grown}

@@ -1,5 +1,5 @@
-pub use Rattle.executor_core.specs.Answers
-pub use Rattle.executor_core.specs.Flows
+pub use Rattle.executor_model.specs.Answers
+pub use Rattle.executor_model.specs.Flows
 pub use Rattle.line_copy.specs.Copying
 pub use Rattle.task_table.specs.Firsts
 pub use Rattle.live_core.specs.Cancels

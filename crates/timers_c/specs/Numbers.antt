@@ -2,10 +2,10 @@
 use Rattle.std.specs.Prelude.{ℕ, Bool, true, false}
 use Rattle.sched_time.specs.declared.policies.Which.{Which}
 use Rattle.sched_time.specs.declared.policies.Which.TheVariants as w
-use Rattle.executor_core.specs.declared.types.CancelEffect.{CancelEffect}
-use Rattle.executor_core.specs.declared.types.CancelEffect.TheVariants as e
-use Rattle.executor_core.specs.declared.types.Outcome.{Outcome}
-use Rattle.executor_core.specs.declared.types.Outcome.TheVariants as o
+use Rattle.executor_model.specs.declared.types.CancelEffect.{CancelEffect}
+use Rattle.executor_model.specs.declared.types.CancelEffect.TheVariants as e
+use Rattle.executor_model.specs.declared.types.Outcome.{Outcome}
+use Rattle.executor_model.specs.declared.types.Outcome.TheVariants as o
 use Rattle.timers_c.specs.declared.state.Phase.{Phase}
 use Rattle.timers_c.specs.declared.state.Phase.TheVariants as p
 use Rattle.timers_c.specs.declared.status.Status.{Status}

@@ -1,6 +1,6 @@
 -- What contracts see of a session. (This project's rule.)
 use Rattle.std.specs.Prelude.{List}
-use Rattle.executor_core.specs.declared.types.Line.{Line}
+use Rattle.executor_model.specs.declared.types.Line.{Line}
 use Rattle.timers.specs.Timers.{TimersView}
 
 -- timers, and the lines of the last call that was taken

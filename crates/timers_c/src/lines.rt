@@ -1,9 +1,9 @@
 //! The lines of the last call, one at a time: they stand nowhere.
 ghost use Rattle.std.specs.Prelude.{◌≡◌, ◌<◌, true, length, map, is_some, slice_get, IfSome};
 ghost use Rattle.std.specs.List.{list_all};
-ghost use Rattle.executor_core.specs.Flows.{end_line};
-ghost use Rattle.executor_core.specs.declared.types.Answer.TheVariants as answer;
-ghost use Rattle.executor_core.specs.declared.types.Message.TheVariants as message;
+ghost use Rattle.executor_model.specs.Flows.{end_line};
+ghost use Rattle.executor_model.specs.declared.types.Answer.TheVariants as answer;
+ghost use Rattle.executor_model.specs.declared.types.Message.TheVariants as message;
 ghost use Rattle.task_table.specs.Endings.{numbers_of};
 ghost use Rattle.live_core.specs.Lined as lined;
 ghost use Rattle.timers_c.specs.Texts as texts;
@@ -12,7 +12,7 @@ ghost use Rattle.timers_c.specs.own.Lasts.{answer_of, lines_of_last, said_lines}
 
 use crate::last::Last;
 use crate::said::Said;
-use executor_core::{Answer, Line, Message, Refusal};
+use executor_model::{Answer, Line, Message, Refusal};
 use live_core::TaskRef;
 
 /// How many lines there are of the last call, where these tasks were ended.

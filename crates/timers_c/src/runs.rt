@@ -4,7 +4,7 @@ ghost use Rattle.timers_c.specs.Numbers.{number_of_outcome};
 ghost use Rattle.timers_c.specs.Calls.{end_of, no_end, no_run, run_of, value_of};
 
 use crate::refs::Ref;
-use executor_core::Outcome;
+use executor_model::Outcome;
 use timers::Finished;
 
 /// A run that a worker has begun.

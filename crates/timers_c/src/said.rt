@@ -1,11 +1,11 @@
 //! What a call was answered, to be told as a line.
 ghost use Rattle.std.specs.Prelude.{◌≡◌};
-ghost use Rattle.executor_core.specs.declared.types.Answer.TheVariants as a;
-ghost use Rattle.executor_core.specs.Answers.{bare};
+ghost use Rattle.executor_model.specs.declared.types.Answer.TheVariants as a;
+ghost use Rattle.executor_model.specs.Answers.{bare};
 ghost use Rattle.timers.specs.Calls.{run_reply};
 ghost use Rattle.timers_c.specs.own.Lasts.{answer_of};
 
-use executor_core::{CancelEffect, Kind, Outcome};
+use executor_model::{CancelEffect, Kind, Outcome};
 use live_core::Asked;
 use sched_time::Which;
 use timers::{Finished, Run};

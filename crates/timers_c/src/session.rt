@@ -11,7 +11,7 @@ use crate::lines::{all_spelled, line_at, line_count};
 use crate::refs::{Gone, Ref};
 use crate::said::Said;
 use crate::submission::Submission;
-use executor_core::{CancelEffect, Line};
+use executor_model::{CancelEffect, Line};
 use live_core::{Asked, CallError, MakeError, Submitted, TaskRef};
 use sched_time::{Ending, Which};
 use std::alloc::Global;
@@ -27,7 +27,7 @@ pub struct Session {
 
 impl Model for Session {
     ghost use Rattle.std.specs.Prelude.{◌≤◌};
-    ghost use Rattle.executor_core.specs.Counts.{most_workers};
+    ghost use Rattle.executor_model.specs.Counts.{most_workers};
     ghost use Rattle.task_table.specs.Tables.{workers_of};
     ghost use Rattle.timers_c.specs.Seen.{Seen};
     ghost use Rattle.timers_c.specs.own.Lasts.{lines_of_last};

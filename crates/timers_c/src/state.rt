@@ -6,7 +6,7 @@ ghost use Rattle.timers_c.specs.Numbers.{number_of_bool, number_of_phase};
 ghost use Rattle.timers_c.specs.Calls.{bits_of, counts_of, no_counts, no_state, no_task, phase_of, state_of, task_state_of};
 
 use crate::session::Session;
-use executor_core::Stage;
+use executor_model::Stage;
 use live_core::Asked;
 use sched_time::Policies;
 use task_table::Seat;

@@ -1,6 +1,6 @@
 //! Submissions, by when their tasks are to run.
 ghost use Rattle.std.specs.Prelude.{◌≡◌, ◌+◌, IfOk, IfErr, OnOk, OnErr};
-ghost use Rattle.executor_core.specs.Answers.{bare, kind_of};
+ghost use Rattle.executor_model.specs.Answers.{bare, kind_of};
 ghost use Rattle.live_core.specs.Lives.{StaysQuiet};
 ghost use Rattle.live_core.specs.Said.{submit_reply};
 ghost use Rattle.timers.specs.Calls as calls;
@@ -10,7 +10,7 @@ ghost use Rattle.timers_c.specs.own.Lasts.{answer_of};
 ghost use Rattle.timers_c.specs.own.Submissions.{first_of, timing_of};
 
 use crate::said::Said;
-use executor_core::Kind;
+use executor_model::Kind;
 use live_core::{CallError, Submitted};
 use std::alloc::Global;
 use timers::Timers;

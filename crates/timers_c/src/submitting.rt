@@ -8,7 +8,7 @@ use crate::refs::Ref;
 use crate::slot::Slot;
 use crate::status::Status;
 use crate::submission::Submission;
-use executor_core::CancelEffect;
+use executor_model::CancelEffect;
 use live_core::{CallError, Submitted};
 use std::alloc::Global;
 

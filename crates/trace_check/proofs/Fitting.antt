@@ -6,15 +6,15 @@ use Rattle.std.proofs.lemmas.List.Elements.{All-head, All-tail}
 use Rattle.sched_time.specs.declared.timing.Ending.{Ending}
 use Rattle.sched_time.specs.declared.timing.Ending.TheVariants as e
 use Rattle.queue_code.specs.Calls.{Planned, task_count}
-use Rattle.executor_core.specs.declared.types.Outcome.{Outcome}
-use Rattle.executor_core.specs.declared.types.Outcome.TheVariants as o
-use Rattle.executor_core.specs.declared.types.Answer.{Answer}
-use Rattle.executor_core.specs.declared.types.Answer.TheVariants as a
-use Rattle.executor_core.specs.declared.types.Message.{Message}
-use Rattle.executor_core.specs.declared.types.Message.TheVariants as m
-use Rattle.executor_core.specs.Histories.{HistoryEntry, happenings}
-use Rattle.executor_core.specs.Flows.{lines_of}
-use Rattle.executor_core.proofs.Sweeping.{few_tasks}
+use Rattle.executor_model.specs.declared.types.Outcome.{Outcome}
+use Rattle.executor_model.specs.declared.types.Outcome.TheVariants as o
+use Rattle.executor_model.specs.declared.types.Answer.{Answer}
+use Rattle.executor_model.specs.declared.types.Answer.TheVariants as a
+use Rattle.executor_model.specs.declared.types.Message.{Message}
+use Rattle.executor_model.specs.declared.types.Message.TheVariants as m
+use Rattle.executor_model.specs.Histories.{HistoryEntry, happenings}
+use Rattle.executor_model.specs.Flows.{lines_of}
+use Rattle.executor_model.proofs.Swept.{few_tasks}
 use Rattle.executor_laws.specs.Lines.{RunEnded, IsOutcomeInRange, IsAnswerInRange, IsMessageInRange}
 use Rattle.executor_laws.proofs.Lines.{lines_are_in_range}
 use Rattle.trace_text.specs.Spelling.{FitsEnding, FitsOutcome, FitsAnswer, FitsMessage, lines_text}

@@ -3,7 +3,7 @@ use Rattle.std.proofs.Common.{◌≡◌, ℕ, ◌+◌, List, [], ◌∷◌, ◌+
 use Rattle.std.specs.Prelude.{All}
 use Rattle.std.proofs.lemmas.Grind.{flat_map-append}
 use Rattle.std.proofs.lemmas.List.Elements.{All-append, All-from_recursion}
-use Rattle.executor_core.specs.declared.types.Line.{Line}
+use Rattle.executor_model.specs.declared.types.Line.{Line}
 use Rattle.trace_text.specs.Spelling.{FitsLine, line_text, lines_text}
 use Rattle.trace_check.specs.Lines.{AreSpelled, AreBefore}
 

@@ -10,18 +10,18 @@ use Rattle.sched_time.specs.declared.timing.Timing.TheVariants as t
 use Rattle.sched_time.specs.declared.timing.Ending.{Ending}
 use Rattle.sched_time.specs.declared.timing.Ending.TheVariants as e
 use Rattle.queue_code.specs.declared.call.CodeCall.{CodeCall}
-use Rattle.executor_core.specs.declared.types.Happening.{Happening}
-use Rattle.executor_core.specs.declared.types.Happening.TheVariants as h
-use Rattle.executor_core.specs.declared.types.EventError.{EventError}
-use Rattle.executor_core.specs.declared.types.EventError.TheVariants as x
-use Rattle.executor_core.specs.declared.types.Answer.{Answer}
-use Rattle.executor_core.specs.declared.types.Answer.TheVariants as a
+use Rattle.executor_model.specs.declared.types.Happening.{Happening}
+use Rattle.executor_model.specs.declared.types.Happening.TheVariants as h
+use Rattle.executor_model.specs.declared.types.EventError.{EventError}
+use Rattle.executor_model.specs.declared.types.EventError.TheVariants as x
+use Rattle.executor_model.specs.declared.types.Answer.{Answer}
+use Rattle.executor_model.specs.declared.types.Answer.TheVariants as a
 use Rattle.queue_code.specs.Calls.{Planned, terms_of, numbers, task_count}
-use Rattle.executor_core.specs.View.{View, first_enabled}
-use Rattle.executor_core.specs.Answers.{Reply, bare, called, start_answer, finish_answer, outcome_in, stops_periodic, due_next, effect_on, is_accepted, moment_after, reply}
-use Rattle.executor_core.specs.Histories.{is_call, MayFrom}
-use Rattle.executor_core.specs.declared.types.Line.{Line}
-use Rattle.executor_core.proofs.Replies.{IsAnswerTo, by_answer}
+use Rattle.executor_model.specs.View.{View, first_enabled}
+use Rattle.executor_model.specs.Answers.{Reply, bare, called, start_answer, finish_answer, outcome_in, stops_periodic, due_next, effect_on, is_accepted, moment_after, reply}
+use Rattle.executor_model.specs.Histories.{is_call, MayFrom}
+use Rattle.executor_model.specs.declared.types.Line.{Line}
+use Rattle.executor_model.proofs.Replies.{IsAnswerTo, by_answer}
 use Rattle.trace_check.specs.Representatives.{is_busy, representative_of_error, representative_ending, representative_of}
 
 -- a happening that the line of another one's reply names as its representative, with what both have in common

@@ -2,15 +2,15 @@
 use Rattle.std.proofs.Common.{◌≡◌, ℕ, ◌+◌, Bool, true, false, cond, List, [], ◌∷◌, ◌++◌, length, map, Some, refl, sym, ap, ◌∙◌, subst, arith, append_assoc, append-nil}
 use Rattle.std.specs.Prelude.{reverse}
 use Rattle.std.proofs.lemmas.List.{length-map, append_cancel_left, reverse-append}
-use Rattle.executor_core.specs.declared.types.Happening.{Happening}
-use Rattle.executor_core.specs.declared.types.Answer.{Answer}
-use Rattle.executor_core.specs.declared.types.Line.{Line}
-use Rattle.executor_core.specs.declared.types.Message.{Message}
-use Rattle.executor_core.specs.declared.types.Message.TheVariants as m
+use Rattle.executor_model.specs.declared.types.Happening.{Happening}
+use Rattle.executor_model.specs.declared.types.Answer.{Answer}
+use Rattle.executor_model.specs.declared.types.Line.{Line}
+use Rattle.executor_model.specs.declared.types.Message.{Message}
+use Rattle.executor_model.specs.declared.types.Message.TheVariants as m
 use Rattle.queue_code.specs.Calls.{Planned, how_many}
-use Rattle.executor_core.specs.Histories.{HistoryEntry, entry_of, happenings, now_of, answer, IsHistoryOf}
-use Rattle.executor_core.specs.Flows.{answer_line, end_line, lines_at, lines_of, reply_in}
-use Rattle.executor_core.proofs.Flowing.{how_many-append, one_answer}
+use Rattle.executor_model.specs.Histories.{HistoryEntry, entry_of, happenings, now_of, answer, IsHistoryOf}
+use Rattle.executor_model.specs.Flows.{answer_line, end_line, lines_at, lines_of, reply_in}
+use Rattle.executor_model.proofs.Flowing.{how_many-append, one_answer}
 use Rattle.trace_check.specs.Representatives.{AreRepresentatives}
 use Rattle.trace_check.specs.Going.{Goes, IsNextAnswer, StandsNext}
 use Rattle.trace_check.specs.Laws.{GoesLineByLine, GoesOnlyOneWay, FrontsGo}

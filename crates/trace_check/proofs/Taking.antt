@@ -3,19 +3,19 @@ use Rattle.std.proofs.Common.{◌≡◌, ℕ, ◌+◌, ◌<◌, ◌≤◌, Bool,
 use Rattle.std.specs.Prelude.{slice_get, slice_index_or}
 use Rattle.std.proofs.lemmas.List.{drop_more}
 use Rattle.std.proofs.Math.ListN.{drop_of_length-le}
-use Rattle.executor_core.specs.declared.types.Happening.{Happening}
-use Rattle.executor_core.specs.declared.types.Answer.{Answer}
-use Rattle.executor_core.specs.declared.types.Line.{Line}
-use Rattle.executor_core.specs.declared.types.Message.{Message}
-use Rattle.executor_core.specs.declared.types.Message.TheVariants as m
+use Rattle.executor_model.specs.declared.types.Happening.{Happening}
+use Rattle.executor_model.specs.declared.types.Answer.{Answer}
+use Rattle.executor_model.specs.declared.types.Line.{Line}
+use Rattle.executor_model.specs.declared.types.Message.{Message}
+use Rattle.executor_model.specs.declared.types.Message.TheVariants as m
 use Rattle.queue_code.specs.Calls.{Planned}
-use Rattle.executor_core.specs.View.{View}
-use Rattle.executor_core.specs.Answers.{Reply, reply, moment_after}
-use Rattle.executor_core.specs.Histories.{happenings, view_of_history, now_of, answer, MayFrom}
-use Rattle.executor_core.specs.State.{State, view_of_state, next, reply_of}
-use Rattle.executor_core.specs.Flows.{answer_line, end_line, lines_at}
+use Rattle.executor_model.specs.View.{View}
+use Rattle.executor_model.specs.Answers.{Reply, reply, moment_after}
+use Rattle.executor_model.specs.Histories.{happenings, view_of_history, now_of, answer, MayFrom}
+use Rattle.executor_model.specs.State.{State, view_of_state, next, reply_of}
+use Rattle.executor_model.specs.Flows.{answer_line, end_line, lines_at}
 use Rattle.executor_core.specs.CoreView.{CoreView, workers_of, state_of, Counts, Steps, IsOpening}
-use Rattle.executor_core.proofs.Agree.{after_agrees}
+use Rattle.executor_model.proofs.Agree.{after_agrees}
 use Rattle.trace_check.specs.Representatives.{busy_by, busy_after, representative_of}
 use Rattle.trace_check.specs.Going.{Goes, IsNextAnswer, StandsNext}
 use Rattle.trace_check.specs.own.Standing.{IsAt, IsStanding, TellBusy, most_named, representative_of_message}

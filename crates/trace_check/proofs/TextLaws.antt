@@ -4,8 +4,8 @@ use Rattle.std.specs.Prelude.{All, reverse, length}
 use Rattle.std.proofs.lemmas.Bool.{cases_order}
 use Rattle.std.proofs.lemmas.List.{reverse-reverse, length-reverse, get_or-reverse}
 use Rattle.queue_code.specs.Calls.{Planned}
-use Rattle.executor_core.specs.declared.types.Line.{Line}
-use Rattle.executor_core.specs.Flows.{lines_of}
+use Rattle.executor_model.specs.declared.types.Line.{Line}
+use Rattle.executor_model.specs.Flows.{lines_of}
 use Rattle.trace_text.specs.Spelling.{FitsLine, lines_text}
 use Rattle.trace_check.specs.declared.finding.Finding.TheVariants as f
 use Rattle.trace_check.specs.Findings.{Conforms, Breaks}

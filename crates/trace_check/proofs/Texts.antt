@@ -6,8 +6,8 @@ use Rattle.std.proofs.lemmas.Bool.{cases_lt, cases_eq, eqb-true, false≢true}
 use Rattle.std.proofs.lemmas.Grind.{flat_map-append}
 use Rattle.std.proofs.lemmas.List.Elements.{All-from_recursion, recursion_from_All}
 use Rattle.queue_code.specs.Calls.{Planned}
-use Rattle.executor_core.specs.declared.types.Line.{Line}
-use Rattle.executor_core.specs.State.{State}
+use Rattle.executor_model.specs.declared.types.Line.{Line}
+use Rattle.executor_model.specs.State.{State}
 use Rattle.trace_text.specs.Spelling.{line_text, lines_text, FitsLine}
 use Rattle.trace_text.specs.Reading.{LinesAreOne, LinesEndOnce}
 use Rattle.trace_check.specs.Going.{Goes, AreWhole}

@@ -3,19 +3,19 @@ use Rattle.std.proofs.Common.{◌≡◌, ℕ, ◌+◌, ◌≤◌, ◌==◌, ◌^
 use Rattle.std.proofs.lemmas.List.{reverse-reverse}
 use Rattle.std.specs.Prelude.{if◌then◌else◌, slice_get, reverse}
 use Rattle.std.specs.Option.{is_some}
-use Rattle.executor_core.specs.declared.types.Happening.{Happening}
-use Rattle.executor_core.specs.declared.types.Line.{Line}
-use Rattle.executor_core.specs.declared.types.Answer.{Answer}
-use Rattle.executor_core.specs.declared.types.Answer.TheVariants as a
+use Rattle.executor_model.specs.declared.types.Happening.{Happening}
+use Rattle.executor_model.specs.declared.types.Line.{Line}
+use Rattle.executor_model.specs.declared.types.Answer.{Answer}
+use Rattle.executor_model.specs.declared.types.Answer.TheVariants as a
 use Rattle.queue_code.specs.Calls.{Planned, IsPlanned, task_count, submits_task}
-use Rattle.executor_core.specs.View.{View}
-use Rattle.executor_core.specs.Answers.{Reply, reply, moment_after}
-use Rattle.executor_core.specs.Histories.{HistoryEntry, entry_of, happenings, is_call, view_of_history, now_of, answer, work_of, work_after, policies_after, is_shutdown, is_stop, IsHistoryOf, MayFrom}
-use Rattle.executor_core.proofs.Flowing.{how_many-le}
-use Rattle.executor_core.proofs.Views.{view_after, fate_after, look_moves}
-use Rattle.executor_core.proofs.Within.{now_within}
+use Rattle.executor_model.specs.View.{View}
+use Rattle.executor_model.specs.Answers.{Reply, reply, moment_after}
+use Rattle.executor_model.specs.Histories.{HistoryEntry, entry_of, happenings, is_call, view_of_history, now_of, answer, work_of, work_after, policies_after, is_shutdown, is_stop, IsHistoryOf, MayFrom}
+use Rattle.executor_model.proofs.Flowing.{how_many-le}
+use Rattle.executor_model.proofs.Views.{view_after, fate_after, look_moves}
+use Rattle.executor_model.proofs.Within.{now_within}
 use Rattle.trace_check.specs.Representatives.{is_busy, busy_by}
-use Rattle.executor_core.specs.Flows.{answer_line, end_line, lines_at, lines_of}
+use Rattle.executor_model.specs.Flows.{answer_line, end_line, lines_at, lines_of}
 use Rattle.trace_check.specs.Going.{Goes, AreWhole, IsNextAnswer}
 use Rattle.trace_check.specs.Laws.{TracesGo}
 use Rattle.trace_check.proofs.Splits.{ends_at, turned_before, goes_owed, goes_answered}

@@ -1,7 +1,7 @@
 -- What a check of a text finds. Lines stand the newest first. All of it is this project's rule.
 use Rattle.std.specs.Prelude.{◌≡◌, ℕ, ◌<◌, List, ◌++◌, All, length, reverse}
 use Rattle.queue_code.specs.Calls.{Planned}
-use Rattle.executor_core.specs.declared.types.Line.{Line}
+use Rattle.executor_model.specs.declared.types.Line.{Line}
 use Rattle.trace_text.specs.Spelling.{FitsLine, lines_text}
 use Rattle.trace_check.specs.Going.{Goes, AreWhole}
 use Rattle.trace_check.specs.declared.finding.Finding.{Finding}

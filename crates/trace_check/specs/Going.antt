@@ -1,14 +1,14 @@
 -- Which lines go: those that can stand at the front of a trace.
 -- Lines and histories stand the newest first. All of it is this project's rule.
 use Rattle.std.specs.Prelude.{◌≡◌, ℕ, List, [], ◌∷◌, ◌++◌, reverse, Some}
-use Rattle.executor_core.specs.declared.types.Happening.{Happening}
-use Rattle.executor_core.specs.declared.types.Answer.{Answer}
-use Rattle.executor_core.specs.declared.types.Line.{Line}
-use Rattle.executor_core.specs.declared.types.Message.{Message}
-use Rattle.executor_core.specs.declared.types.Message.TheVariants as m
+use Rattle.executor_model.specs.declared.types.Happening.{Happening}
+use Rattle.executor_model.specs.declared.types.Answer.{Answer}
+use Rattle.executor_model.specs.declared.types.Line.{Line}
+use Rattle.executor_model.specs.declared.types.Message.{Message}
+use Rattle.executor_model.specs.declared.types.Message.TheVariants as m
 use Rattle.queue_code.specs.Calls.{Planned}
-use Rattle.executor_core.specs.Histories.{HistoryEntry, happenings, now_of, answer, IsHistoryOf, MayCome}
-use Rattle.executor_core.specs.Flows.{lines_of}
+use Rattle.executor_model.specs.Histories.{HistoryEntry, happenings, now_of, answer, IsHistoryOf, MayCome}
+use Rattle.executor_model.specs.Flows.{lines_of}
 use Rattle.trace_check.specs.Representatives.{AreRepresentatives, representative_of}
 
 -- the lines go: their representatives have a history, and they are a front of its lines

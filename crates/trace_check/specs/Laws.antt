@@ -2,12 +2,12 @@
 -- All of it is this project's rule.
 use Rattle.std.specs.Prelude.{◌≡◌, ℕ, ◌^◌, ◌≤◌, ◌↔◌, List, ◌∷◌, All, length, reverse}
 use Rattle.queue_code.specs.Calls.{Planned, IsPlanned}
-use Rattle.executor_core.specs.declared.types.Happening.{Happening}
-use Rattle.executor_core.specs.declared.types.Happening.TheVariants as h
-use Rattle.executor_core.specs.declared.types.Line.{Line}
-use Rattle.executor_core.specs.Counts.{IsWorkerCount}
-use Rattle.executor_core.specs.Histories.{HistoryEntry, happenings, IsHistoryOf}
-use Rattle.executor_core.specs.Flows.{lines_of}
+use Rattle.executor_model.specs.declared.types.Happening.{Happening}
+use Rattle.executor_model.specs.declared.types.Happening.TheVariants as h
+use Rattle.executor_model.specs.declared.types.Line.{Line}
+use Rattle.executor_model.specs.Counts.{IsWorkerCount}
+use Rattle.executor_model.specs.Histories.{HistoryEntry, happenings, IsHistoryOf}
+use Rattle.executor_model.specs.Flows.{lines_of}
 use Rattle.trace_text.specs.Spelling.{FitsEnding, FitsLine, lines_text}
 use Rattle.trace_check.specs.declared.finding.Finding.{Finding}
 use Rattle.trace_check.specs.Going.{Goes, AreWhole, StandsNext}

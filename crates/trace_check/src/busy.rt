@@ -3,10 +3,10 @@ ghost use Rattle.std.specs.Prelude.{◌≡◌, ℕ, ◌<◌, Bool, true, false, 
 ghost use Rattle.std.specs.List.{range_with_len, find};
 ghost use Rattle.trace_check.specs.Representatives.{busy_after, representative_of_error};
 ghost use Rattle.trace_check.specs.own.Standing.{TellBusy, most_named, representative_of_message};
-ghost use Rattle.executor_core.specs.declared.types.Line.{Line as Told};
-ghost use Rattle.executor_core.specs.Said.{message_of};
+ghost use Rattle.executor_model.specs.declared.types.Line.{Line as Told};
+ghost use Rattle.executor_model.specs.Said.{message_of};
 
-use executor_core::{EventError, Happening, Said};
+use executor_model::{EventError, Happening, Said};
 use sched_time::{Ending, LONGEST};
 
 /// How many workers a line can name.

@@ -1,9 +1,9 @@
 //! A check of a text, line by line.
 ghost use Rattle.std.specs.Prelude.{◌≡◌, ℕ, ◌+◌, ◌<◌, ◌≤◌, ◌∷◌, ◌++◌, ◌↔◌, List, [], false, drop, length, IsTrue, IfOk, IfErr, OnOk, IsErrOf, vec_capacity};
 ghost use Rattle.plan_compile.specs.PlanCalls.{calls_of_plan};
-ghost use Rattle.executor_core.specs.Counts.{IsWorkerCount};
+ghost use Rattle.executor_model.specs.Counts.{IsWorkerCount};
 ghost use Rattle.executor_core.specs.CoreView.{workers_of, IsOpening};
-ghost use Rattle.executor_core.specs.declared.types.Line.{Line as Said};
+ghost use Rattle.executor_model.specs.declared.types.Line.{Line as Said};
 ghost use Rattle.trace_check.specs.Going.{Goes};
 ghost use Rattle.trace_check.specs.Findings.{Finds};
 ghost use Rattle.trace_check.specs.Lines.{AreRead};
@@ -13,7 +13,8 @@ ghost use Rattle.trace_check.specs.own.Standing.{TellBusy, IsStanding, IsReady, 
 use crate::busy::Busy;
 use crate::error::CheckError;
 use crate::finding::Finding;
-use executor_core::{Core, Line, MOST_WORKERS, line_equality_tells};
+use executor_core::Core;
+use executor_model::{Line, MOST_WORKERS, line_equality_tells};
 use plan_compile::compile;
 use plan_read::Plan;
 use std::alloc::Allocator;

@@ -4,7 +4,7 @@ use Rattle.std.specs.Prelude.{Some, slice_get}
 use Rattle.std.specs.List.{filter}
 use Rattle.std.proofs.lemmas.Bool.{and_parts}
 use Rattle.std.proofs.lemmas.Option.{none-some, same_Some}
-use Rattle.executor_core.specs.declared.types.Line.{Line}
+use Rattle.executor_model.specs.declared.types.Line.{Line}
 use Rattle.trace_draw.specs.declared.window.Window.{Window}
 use Rattle.trace_draw.specs.Marks.{is_mark, marks_of, shows_line}
 use Rattle.trace_draw.specs.Pictures.{marks_within}

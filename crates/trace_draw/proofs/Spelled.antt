@@ -3,11 +3,11 @@ use Rattle.std.proofs.Common.{◌≡◌, ℕ, ◌≤◌, List, [], ◌∷◌, le
 use Rattle.std.specs.Prelude.{codes}
 use Rattle.std.specs.List.{AllByRecursion}
 use Rattle.std.proofs.lemmas.List.Elements.{recursion_from_All}
-use Rattle.executor_core.specs.declared.types.Line.{Line}
+use Rattle.executor_model.specs.declared.types.Line.{Line}
 use Rattle.trace_text.specs.Spelling.{FitsLine, line_text, lines_text}
 use Rattle.trace_text.proofs.LineTexts.{first_line}
 use Rattle.trace_text.proofs.LineEnds.{line_ended}
-use Rattle.executor_core.specs.Flows.{lines_of}
+use Rattle.executor_model.specs.Flows.{lines_of}
 use Rattle.trace_check.specs.Lines.{AreSpelled}
 use Rattle.trace_check.proofs.TextLaws.{traces_conform}
 use Rattle.trace_draw.specs.Laws.{ConformingTextsAreTraces}

@@ -11,7 +11,7 @@ use Rattle.std.proofs.lemmas.List.FromFn.{map-range_with_len_more, length-map-ra
 use Rattle.sched_time.specs.Times.{nanos_of}
 use Rattle.sched_time.specs.declared.unit.Unit.{Unit}
 use Rattle.sched_time.specs.declared.unit.Unit.TheVariants.{Day}
-use Rattle.executor_core.specs.declared.types.Line.{Line}
+use Rattle.executor_model.specs.declared.types.Line.{Line}
 use Rattle.trace_draw.specs.declared.ticks.Tick.{Tick}
 use Rattle.trace_draw.specs.declared.window.Window.{Window}
 use Rattle.trace_draw.specs.Ticks.{steps, step_nanos, step_of, tick_at, ticks_of}

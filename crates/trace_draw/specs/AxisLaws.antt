@@ -2,7 +2,7 @@
 use Rattle.std.specs.Prelude.{◌≡◌, ℕ, ◌+◌, ◌-◌, ◌*◌, ◌^◌, ◌<◌, ◌≤◌, List, length, Some, slice_get}
 use Rattle.sched_time.specs.Times.{nanos_of}
 use Rattle.queue_code.specs.Calls.{Planned}
-use Rattle.executor_core.specs.declared.types.Line.{Line}
+use Rattle.executor_model.specs.declared.types.Line.{Line}
 use Rattle.trace_draw.specs.declared.ticks.Tick.{Tick}
 use Rattle.trace_draw.specs.declared.window.Window.{Window}
 use Rattle.trace_draw.specs.Laws.{IsTraceOf}

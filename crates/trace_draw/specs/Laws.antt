@@ -2,14 +2,14 @@
 -- All of it is this project's rule.
 use Rattle.std.specs.Prelude.{◌≡◌, ℕ, ◌+◌, ◌<◌, ◌≤◌, ◌==◌, ◌&&◌, Bool, true, false, List, ◌∷◌, ◌++◌, length, Some, slice_get, is_some}
 use Rattle.queue_code.specs.Calls.{Planned, IsOrderly, IsPlanned, how_many}
-use Rattle.executor_core.specs.Counts.{IsWorkerCount}
-use Rattle.executor_core.specs.declared.types.Answer.{Answer}
-use Rattle.executor_core.specs.declared.types.Answer.TheVariants as a
-use Rattle.executor_core.specs.declared.types.Line.{Line}
-use Rattle.executor_core.specs.declared.types.Message.{Message}
-use Rattle.executor_core.specs.declared.types.Message.TheVariants as m
-use Rattle.executor_core.specs.Histories.{HistoryEntry, IsHistoryOf}
-use Rattle.executor_core.specs.Flows.{answer_line, lines_of}
+use Rattle.executor_model.specs.Counts.{IsWorkerCount}
+use Rattle.executor_model.specs.declared.types.Answer.{Answer}
+use Rattle.executor_model.specs.declared.types.Answer.TheVariants as a
+use Rattle.executor_model.specs.declared.types.Line.{Line}
+use Rattle.executor_model.specs.declared.types.Message.{Message}
+use Rattle.executor_model.specs.declared.types.Message.TheVariants as m
+use Rattle.executor_model.specs.Histories.{HistoryEntry, IsHistoryOf}
+use Rattle.executor_model.specs.Flows.{answer_line, lines_of}
 use Rattle.executor_laws.specs.Positions.{finishes_by}
 use Rattle.trace_check.specs.Findings.{Conforms}
 use Rattle.trace_check.specs.Lines.{AreSpelled}

@@ -1,11 +1,11 @@
 -- The lines of a trace that are marks: all but the starts and the finishes of runs. All of it is this project's rule.
 use Rattle.std.specs.Prelude.{ℕ, ◌&&◌, nat_le, Bool, true, false, List}
 use Rattle.std.specs.List.{filter}
-use Rattle.executor_core.specs.declared.types.Answer.{Answer}
-use Rattle.executor_core.specs.declared.types.Answer.TheVariants as a
-use Rattle.executor_core.specs.declared.types.Line.{Line}
-use Rattle.executor_core.specs.declared.types.Message.{Message}
-use Rattle.executor_core.specs.declared.types.Message.TheVariants as m
+use Rattle.executor_model.specs.declared.types.Answer.{Answer}
+use Rattle.executor_model.specs.declared.types.Answer.TheVariants as a
+use Rattle.executor_model.specs.declared.types.Line.{Line}
+use Rattle.executor_model.specs.declared.types.Message.{Message}
+use Rattle.executor_model.specs.declared.types.Message.TheVariants as m
 use Rattle.trace_draw.specs.declared.window.Window.{Window}
 
 -- an answer starts no run, and finishes none

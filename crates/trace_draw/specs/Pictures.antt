@@ -1,7 +1,7 @@
 -- What a picture of lines shows. The lines stand in the order of the trace, the oldest first. All of it is this project's rule.
 use Rattle.std.specs.Prelude.{ℕ, nat_lt, if◌then◌else◌, List, length, Option, Some, None}
 use Rattle.std.specs.List.{filter}
-use Rattle.executor_core.specs.declared.types.Line.{Line}
+use Rattle.executor_model.specs.declared.types.Line.{Line}
 use Rattle.trace_draw.specs.declared.bars.Bar.{Bar}
 use Rattle.trace_draw.specs.declared.ticks.Tick.{Tick}
 use Rattle.trace_draw.specs.declared.window.Window.{Window}

@@ -1,6 +1,6 @@
 -- The part of time that lines take. All of it is this project's rule.
 use Rattle.std.specs.Prelude.{ℕ, min, max, List, [], ◌∷◌, fold}
-use Rattle.executor_core.specs.declared.types.Line.{Line}
+use Rattle.executor_model.specs.declared.types.Line.{Line}
 
 -- the least moment of lines, and 0 where there is none
 abbrev pub least_moment : List Line → ℕ

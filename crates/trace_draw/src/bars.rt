@@ -1,5 +1,5 @@
 //! The runs of a trace, as bars.
-use executor_core::Outcome;
+use executor_model::Outcome;
 
 /// How a run ended, and when.
 #[derive(Clone, Copy, Debug, PartialEq, Eq)]

@@ -10,7 +10,7 @@ use crate::error::PictureError;
 use crate::marks::{is_mark, shows};
 use crate::shown::Picture;
 use crate::window::Window;
-use executor_core::Line;
+use executor_model::Line;
 use std::alloc::{AllocError, Allocator};
 
 /// The picture of the lines of a trace, which stand in its order.

@@ -1,11 +1,11 @@
 //! The bars of lines that are read from the last one to the first.
 ghost use Rattle.std.specs.Prelude.{◌≡◌, ℕ, ◌<◌, [], ◌∷◌, List, slice_index_or, None};
-ghost use Rattle.executor_core.specs.declared.types.Line.{Line as Said};
+ghost use Rattle.executor_model.specs.declared.types.Line.{Line as Said};
 ghost use Rattle.trace_draw.specs.Bars.{finish_of, bar_in};
 ghost use Rattle.trace_draw.specs.own.Ends.{TellEnds};
 
 use crate::bars::{Bar, Finish};
-use executor_core::{Answer, Line, Message};
+use executor_model::{Answer, Line, Message};
 
 /// How many workers a line can name.
 const MOST_NAMED: usize = 256;

@@ -3,7 +3,7 @@ ghost use Rattle.std.specs.Prelude.{◌≡◌, ◌&&◌};
 ghost use Rattle.trace_draw.specs.Marks.{is_mark, shows};
 
 use crate::window::Window;
-use executor_core::{Answer, Line, Message};
+use executor_model::{Answer, Line, Message};
 
 /// Whether a line is a mark: it starts no run, and finishes none.
 pub fn is_mark(line: &Line) -> bool

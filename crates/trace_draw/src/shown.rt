@@ -4,7 +4,7 @@ ghost use Rattle.std.specs.Prelude.{◌≡◌};
 use crate::bars::Bar;
 use crate::ticks::Tick;
 use crate::window::Window;
-use executor_core::Line;
+use executor_model::Line;
 use std::alloc::Allocator;
 use std::marker::Model;
 

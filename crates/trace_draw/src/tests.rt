@@ -7,7 +7,7 @@ mod usage;
 mod windows;
 
 use crate::{Picture, PictureError, Window, picture};
-use executor_core::Line;
+use executor_model::Line;
 use std::alloc::Global;
 use std::process::Abort;
 use std::test::Fail;

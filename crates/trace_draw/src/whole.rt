@@ -3,7 +3,7 @@ ghost use Rattle.std.specs.Prelude.{◌≡◌};
 ghost use Rattle.trace_draw.specs.Whole.{least_moment, greatest_moment};
 
 use crate::window::Window;
-use executor_core::Line;
+use executor_model::Line;
 
 /// The smallest window that shows each line: from their least moment to their greatest. Of a trace that conforms these are the
 /// moments of the first line and of the last one. Where there is no line it is from 0 to 0.

@@ -3,8 +3,8 @@ use Rattle.std.specs.Prelude.{◌≡◌, ℕ, ◌+◌, ◌-◌, ◌<◌, ◌==�
 use Rattle.std.specs.List.{Contains, after_first, position_or_len}
 use Rattle.std.specs.List.Sorted.{IsStrictlyIncreasing}
 use Rattle.queue_code.specs.Calls.{Planned}
-use Rattle.executor_core.specs.Counts.{IsWorkerCount}
-use Rattle.executor_core.specs.declared.Line.{Line}
+use Rattle.executor_model.specs.Counts.{IsWorkerCount}
+use Rattle.executor_model.specs.declared.Line.{Line}
 use Rattle.trace_text.specs.Spelling.{FitsLine, line_text}
 use Rattle.trace_check.specs.Findings.{Conforms, Finds}
 use Rattle.trace_check.specs.declared.finding.Finding.{Finding}

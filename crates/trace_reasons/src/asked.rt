@@ -1,6 +1,6 @@
 //! What a line is about, as far as its words tell it.
 
-use executor_core::Happening;
+use executor_model::Happening;
 use sched_time::{Ending, LONGEST};
 use std::alloc::{AllocError, Allocator};
 

@@ -3,7 +3,7 @@
 use crate::asked::Asked;
 use crate::replay::Replay;
 use crate::scene::Scene;
-use executor_core::{Answer, EventError, Happening, Line, Message};
+use executor_model::{Answer, EventError, Happening, Line, Message};
 use sched_time::Ending;
 use std::alloc::{AllocError, Allocator};
 

@@ -2,7 +2,7 @@
 
 ghost use Rattle.std.specs.Prelude.{◌≡◌, ◌≤◌, ◌≢◌, ◌↔◌, All, AllPairs, IfNone, IfOk, IfSome, IsErrOf, length, option_map};
 ghost use Rattle.plan_compile.specs.PlanCalls.{calls_of_plan};
-ghost use Rattle.executor_core.specs.Counts.{IsWorkerCount};
+ghost use Rattle.executor_model.specs.Counts.{IsWorkerCount};
 ghost use Rattle.trace_check.specs.Findings.{Breaks, Conforms};
 ghost use Rattle.trace_check.specs.Standing.{most_bytes};
 ghost use Rattle.trace_reasons.specs.Standing.{CouldStand, AreConforming, IsFaultAt, IsFaultOf, line_at};

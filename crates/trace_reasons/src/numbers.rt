@@ -4,11 +4,11 @@ ghost use Rattle.std.specs.Prelude.{◌≤◌, ◌↔◌, IfOk, IsTrue, length};
 ghost use Rattle.plan_compile.specs.PlanCalls.{calls_of_plan};
 ghost use Rattle.trace_check.specs.Findings.{Breaks, Conforms};
 ghost use Rattle.trace_check.specs.Standing.{most_bytes};
-ghost use Rattle.executor_core.specs.Counts.{IsWorkerCount};
+ghost use Rattle.executor_model.specs.Counts.{IsWorkerCount};
 ghost use Rattle.trace_reasons.specs.Standing.{AreConforming};
 
 use crate::scene::Scene;
-use executor_core::MOST_WORKERS;
+use executor_model::MOST_WORKERS;
 use std::alloc::{AllocError, Allocator};
 use trace_check::{Finding, check};
 

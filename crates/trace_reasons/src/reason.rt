@@ -1,7 +1,7 @@
 //! Why a trace breaks, in words.
 
 use crate::told::{Lines, Numbers};
-use executor_core::{Line, Message};
+use executor_model::{Line, Message};
 use line_reasons::{FileName, LineFault, Quoted};
 use std::alloc::Allocator;
 use std::fmt;

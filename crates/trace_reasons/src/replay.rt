@@ -1,6 +1,7 @@
 //! The executor behind the lines of a trace.
 
-use executor_core::{Answer, Core, Happening, Line, Message, Outcome, make_room};
+use executor_core::{Core, make_room};
+use executor_model::{Answer, Happening, Line, Message, Outcome};
 use plan_compile::compile;
 use plan_read::Plan;
 use sched_time::Ending;

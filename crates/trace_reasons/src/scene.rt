@@ -1,6 +1,6 @@
 //! A text that breaks.
 
-use executor_core::Line;
+use executor_model::Line;
 use plan_read::Plan;
 use std::alloc::Allocator;
 

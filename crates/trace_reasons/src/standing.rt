@@ -6,7 +6,7 @@ ghost use Rattle.trace_reasons.specs.Standing.{CouldStand};
 
 use crate::places::lines_before;
 use crate::scene::Scene;
-use executor_core::Line;
+use executor_model::Line;
 use std::alloc::{AllocError, Allocator};
 use trace_check::{Finding, MOST_BYTES, check};
 use trace_text::write_line;

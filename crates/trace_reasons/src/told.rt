@@ -1,6 +1,6 @@
 //! Lines and numbers in one line of ours.
 
-use executor_core::Line;
+use executor_model::Line;
 use std::fmt;
 use trace_text::{LINE_ROOM, Stamp, put_line};
 

@@ -2,7 +2,7 @@
 use Rattle.std.proofs.Common.{◌≡◌, ℕ, List, Result, Ok, Err, subst, sym}
 use Rattle.std.specs.Prelude.{IfErr, IsErrAnd}
 use Rattle.plan_read.specs.Plans.{PlanTree}
-use Rattle.executor_core.specs.declared.types.Line.{Line}
+use Rattle.executor_model.specs.declared.types.Line.{Line}
 use Rattle.trace_draw.specs.Pictures.{crowd_told}
 use Rattle.trace_draw.specs.declared.error.PictureError.{PictureError}
 use Rattle.trace_draw.specs.declared.error.PictureError.TheVariants.{Crowded, Memory}

@@ -1,7 +1,7 @@
 -- The laws of stacks.
 use Rattle.std.proofs.Common.{◌≡◌, ◌<◌, ◌==◌, List, [], ◌∷◌, length, refl, ◌∙◌}
 use Rattle.std.specs.List.{AllByRecursion}
-use Rattle.executor_core.specs.declared.types.Line.{Line}
+use Rattle.executor_model.specs.declared.types.Line.{Line}
 use Rattle.svg_elements.specs.declared.words.Glyph.{Glyph}
 use Rattle.svg_elements.specs.declared.words.Glyph.TheVariants as glyph
 use Rattle.trace_draw.specs.Pictures.{marks_within}

@@ -3,8 +3,8 @@ use Rattle.std.specs.Prelude.{◌≡◌, ℕ, ◌<◌, List, map, Option, Some, 
 use Rattle.std.specs.Io.KnownBytes.{Appends, Keeps}
 use Rattle.plan_read.specs.Plans.{PlanTree}
 use Rattle.plan_compile.specs.PlanCalls.{calls_of_plan}
-use Rattle.executor_core.specs.Counts.{IsWorkerCount}
-use Rattle.executor_core.specs.declared.types.Line.{Line}
+use Rattle.executor_model.specs.Counts.{IsWorkerCount}
+use Rattle.executor_model.specs.declared.types.Line.{Line}
 use Rattle.byte_ends.specs.Ends.{AllGood, LastBad, NoneFailed}
 use Rattle.plan_compile.specs.Submissions.{submissions_of_plan}
 use Rattle.trace_check.specs.Findings.{Breaks, Conforms}

@@ -2,7 +2,7 @@
 use Rattle.std.specs.Prelude.{◌≡◌, ℕ, ◌<◌, ◌≤◌, List, Some, slice_get, length, take, flat_map}
 use Rattle.std.specs.List.{AllByRecursion, sum_by}
 use Rattle.queue_code.specs.Calls.{Planned}
-use Rattle.executor_core.specs.declared.types.Line.{Line}
+use Rattle.executor_model.specs.declared.types.Line.{Line}
 use Rattle.svg_elements.specs.declared.words.Glyph.{Glyph}
 use Rattle.trace_draw.specs.declared.bars.Bar.{Bar}
 use Rattle.trace_draw.specs.declared.window.Window.{Window}

@@ -1,9 +1,9 @@
 -- Where things stand in a picture, in pixels. All of it is this project's rule.
 use Rattle.std.specs.Prelude.{ℕ, ◌+◌, ◌-◌, ◌*◌, max, Option, Some, None}
-use Rattle.executor_core.specs.declared.types.Answer.{Answer}
-use Rattle.executor_core.specs.declared.types.Answer.TheVariants as a
-use Rattle.executor_core.specs.declared.types.Message.{Message}
-use Rattle.executor_core.specs.declared.types.Message.TheVariants as m
+use Rattle.executor_model.specs.declared.types.Answer.{Answer}
+use Rattle.executor_model.specs.declared.types.Answer.TheVariants as a
+use Rattle.executor_model.specs.declared.types.Message.{Message}
+use Rattle.executor_model.specs.declared.types.Message.TheVariants as m
 use Rattle.svg_elements.specs.declared.words.Glyph.{Glyph}
 use Rattle.svg_elements.specs.declared.words.Glyph.TheVariants as glyph
 use Rattle.trace_draw.specs.declared.bars.Bar.{Bar}

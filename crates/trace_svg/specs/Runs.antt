@@ -1,11 +1,11 @@
 -- The runs and the marks of a picture. All of it is this project's rule. A text is grouped to the right.
 use Rattle.std.specs.Prelude.{ℕ, ◌+◌, ◌-◌, ◌/◌, nat_le, if◌then◌else◌, List, [], ◌++◌, Option, Some, None, unwrap_or, slice_get, length, codes}
 use Rattle.std.specs.Fmt.{decimal}
-use Rattle.executor_core.specs.declared.types.Answer.TheVariants as a
-use Rattle.executor_core.specs.declared.types.Line.{Line}
-use Rattle.executor_core.specs.declared.types.Message.TheVariants as m
-use Rattle.executor_core.specs.declared.types.Outcome.{Outcome}
-use Rattle.executor_core.specs.declared.types.Outcome.TheVariants as outcome
+use Rattle.executor_model.specs.declared.types.Answer.TheVariants as a
+use Rattle.executor_model.specs.declared.types.Line.{Line}
+use Rattle.executor_model.specs.declared.types.Message.TheVariants as m
+use Rattle.executor_model.specs.declared.types.Outcome.{Outcome}
+use Rattle.executor_model.specs.declared.types.Outcome.TheVariants as outcome
 use Rattle.trace_text.specs.Spelling.{line_text}
 use Rattle.svg_elements.specs.declared.words.Fill.{Fill}
 use Rattle.svg_elements.specs.declared.words.Fill.TheVariants as fill

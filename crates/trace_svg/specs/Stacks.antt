@@ -1,7 +1,7 @@
 -- The marks of a row that stand at one place: stacks. All of it is this project's rule. A text is grouped to the right.
 use Rattle.std.specs.Prelude.{ℕ, ◌+◌, ◌-◌, ◌==◌, Bool, List, [], ◌∷◌, ◌++◌, length, take, drop, filter, flat_map}
 use Rattle.std.specs.Fmt.{decimal}
-use Rattle.executor_core.specs.declared.types.Line.{Line}
+use Rattle.executor_model.specs.declared.types.Line.{Line}
 use Rattle.svg_elements.specs.declared.words.Face.TheVariants as face
 use Rattle.svg_elements.specs.declared.words.Glyph.{Glyph}
 use Rattle.svg_elements.specs.Elements.{label_text}

@@ -1,7 +1,7 @@
 //! The drawing of a trace.
 
 ghost use Rattle.std.specs.Prelude.{ℕ, ◌≤◌, ◌↔◌, List, length, string_bytes, IfErr, IfOk, IsErrOf};
-ghost use Rattle.executor_core.specs.Counts.{IsWorkerCount};
+ghost use Rattle.executor_model.specs.Counts.{IsWorkerCount};
 ghost use Rattle.trace_check.specs.Standing.{most_bytes};
 ghost use Rattle.trace_svg.specs.Drawing.{CountsDrawing, Draws, IsPictureOf, IsTrace, RefusesPicture};
 
@@ -9,7 +9,7 @@ use crate::picture::picture_text;
 use crate::report::{DrawError, Drawn};
 use crate::view::View;
 use byte_ends::{Sink, write_text};
-use executor_core::Line;
+use executor_model::Line;
 use plan_compile::names_of_tasks;
 use plan_read::Plan;
 use std::alloc::Allocator;

@@ -7,7 +7,7 @@ ghost use Rattle.trace_svg.specs.Piles.{bar_right, bars_in, failed, lies_on, pil
 
 use crate::places::{across, bar_width, lane_top};
 use crate::runs::{bar_tip, fill_of, letters_in, name_of, put_bar};
-use executor_core::Outcome;
+use executor_model::Outcome;
 use plan_read::Name;
 use std::alloc::{AllocError, Allocator};
 use std::fmt::Write;

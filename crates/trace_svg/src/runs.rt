@@ -4,7 +4,7 @@ ghost use Rattle.std.specs.Prelude.{◌≡◌, ◌++◌, IfOk, OnOk, map, string
 ghost use Rattle.trace_svg.specs.Runs.{bar_label, bar_shape, bar_text, bar_tip, fill_by, fill_of, finish_line, letters_in, name_of, named_bar_text, run_label, start_line};
 
 use crate::places::{across, bar_width, lane_top};
-use executor_core::{Answer, Line, Message, Outcome};
+use executor_model::{Answer, Line, Message, Outcome};
 use plan_read::Name;
 use std::alloc::{AllocError, Allocator};
 use std::fmt::Write;

@@ -9,7 +9,7 @@ ghost use Rattle.trace_svg.specs.Stacks.{mark_height, marks_in, stack_across, st
 use crate::keys::ROWS;
 use crate::marks::{put_mark, put_telling_mark};
 use crate::places::{across, glyph_of, height_of};
-use executor_core::Line;
+use executor_model::Line;
 use std::alloc::{AllocError, Allocator};
 use std::fmt::Write;
 use svg_elements::{Face, Glyph, Label};

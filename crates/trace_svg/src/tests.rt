@@ -6,7 +6,7 @@ mod usage;
 
 use crate::{DrawError, Drawn, View, draw, picture_text};
 use byte_ends::Writing;
-use executor_core::Line;
+use executor_model::Line;
 use linked_list_allocator::LocalHeap;
 use plan_compile::names_of_tasks;
 use plan_read::{Plan, read_plan};

@@ -3,7 +3,7 @@
 ghost use Rattle.std.specs.Prelude.{◌<◌, MatchOption};
 ghost use Rattle.trace_svg.specs.Drawing.{IsViewOf, view_begins, view_ends};
 
-use executor_core::Line;
+use executor_model::Line;
 use trace_draw::{Window, whole_window};
 
 /// What of a trace is shown.

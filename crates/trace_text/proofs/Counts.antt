@@ -6,8 +6,8 @@ use Rattle.std.proofs.Math.Nat.{pow-suc}
 use Rattle.std.proofs.lemmas.Fmt.{decimal_digit, decimal_step, length-decimal-le}
 use Rattle.sched_time.specs.declared.timing.Ending.{Ending}
 use Rattle.sched_time.specs.declared.timing.Ending.TheVariants.{Value, Fault}
-use Rattle.executor_core.specs.declared.Event.{Event}
-use Rattle.executor_core.specs.declared.Event.TheVariants.{Clock, Start, Finish, Cancel}
+use Rattle.executor_model.specs.declared.Event.{Event}
+use Rattle.executor_model.specs.declared.Event.TheVariants.{Clock, Start, Finish, Cancel}
 use Rattle.trace_text.specs.Spelling.{event_line, ending_line, FitsEvent, FitsEnding}
 
 -- ten times more

@@ -8,8 +8,8 @@ use Rattle.std.proofs.lemmas.List.{append_cancel_left}
 use Rattle.std.proofs.lemmas.List.Elements.{All-append, All-from_get_or}
 use Rattle.sched_time.specs.declared.timing.Ending.{Ending}
 use Rattle.sched_time.specs.declared.timing.Ending.TheVariants.{Value, Fault}
-use Rattle.executor_core.specs.declared.Event.{Event}
-use Rattle.executor_core.specs.declared.Event.TheVariants.{Clock, Start, Finish, Cancel}
+use Rattle.executor_model.specs.declared.Event.{Event}
+use Rattle.executor_model.specs.declared.Event.TheVariants.{Clock, Start, Finish, Cancel}
 use Rattle.trace_text.specs.Spelling.{IsLine, event_line, ending_line, FitsEvent, FitsEnding}
 use Rattle.trace_text.specs.Reading.{IsUnread, EndsNumber, number_then}
 use Rattle.trace_text.proofs.Digits.{one_number}

@@ -3,20 +3,20 @@ use Rattle.std.proofs.Common.{ℕ, ◌-◌, ◌^◌, ◌<◌, true, false, Some,
 use Rattle.std.specs.Prelude.{take}
 use Rattle.std.specs.Fmt.{decimal}
 use Rattle.sched_time.specs.declared.policies.Which.{Which}
-use Rattle.executor_core.specs.declared.Kind.{Kind}
-use Rattle.executor_core.specs.declared.Refusal.{Refusal}
-use Rattle.executor_core.specs.declared.EventError.{EventError}
-use Rattle.executor_core.specs.declared.CancelEffect.{CancelEffect}
-use Rattle.executor_core.specs.declared.Outcome.{Outcome}
-use Rattle.executor_core.specs.declared.Answer.TheVariants as a
+use Rattle.executor_model.specs.declared.Kind.{Kind}
+use Rattle.executor_model.specs.declared.Refusal.{Refusal}
+use Rattle.executor_model.specs.declared.EventError.{EventError}
+use Rattle.executor_model.specs.declared.CancelEffect.{CancelEffect}
+use Rattle.executor_model.specs.declared.Outcome.{Outcome}
+use Rattle.executor_model.specs.declared.Answer.TheVariants as a
 use Rattle.sched_time.specs.declared.policies.Which.TheVariants as which
-use Rattle.executor_core.specs.declared.Kind.TheVariants as kind
-use Rattle.executor_core.specs.declared.Refusal.TheVariants as refusal
-use Rattle.executor_core.specs.declared.EventError.TheVariants as error
-use Rattle.executor_core.specs.declared.CancelEffect.TheVariants as effect
-use Rattle.executor_core.specs.declared.Outcome.TheVariants as outcome
-use Rattle.executor_core.specs.declared.Message.{Message}
-use Rattle.executor_core.specs.declared.Message.TheVariants.{Answer, End}
+use Rattle.executor_model.specs.declared.Kind.TheVariants as kind
+use Rattle.executor_model.specs.declared.Refusal.TheVariants as refusal
+use Rattle.executor_model.specs.declared.EventError.TheVariants as error
+use Rattle.executor_model.specs.declared.CancelEffect.TheVariants as effect
+use Rattle.executor_model.specs.declared.Outcome.TheVariants as outcome
+use Rattle.executor_model.specs.declared.Message.{Message}
+use Rattle.executor_model.specs.declared.Message.TheVariants.{Answer, End}
 use Rattle.trace_text.specs.Spelling.{IsLine, message_text, error_text, outcome_text, kind_text, refusal_text, effect_text, whether_text, cancel_text, FitsMessage, FitsOutcome}
 use Rattle.sched_time.specs.Policies.{policy_text, truth_text}
 use Rattle.trace_text.specs.Reading.{LinesEndOnce}

@@ -3,9 +3,9 @@ use Rattle.std.proofs.Common.{◌≡◌, ℕ, ◌^◌, Bool, Option, Some, None,
 use Rattle.std.specs.Fmt.{decimal}
 use Rattle.std.proofs.lemmas.List.{append_cancel_left}
 use Rattle.sched_time.specs.declared.policies.Which.{Which}
-use Rattle.executor_core.specs.declared.Kind.{Kind}
-use Rattle.executor_core.specs.declared.Refusal.{Refusal}
-use Rattle.executor_core.specs.declared.Outcome.{Outcome}
+use Rattle.executor_model.specs.declared.Kind.{Kind}
+use Rattle.executor_model.specs.declared.Refusal.{Refusal}
+use Rattle.executor_model.specs.declared.Outcome.{Outcome}
 use Rattle.trace_text.specs.Spelling.{kind_text, refusal_text, effect_text, whether_text, cancel_text, FitsOutcome}
 use Rattle.trace_text.specs.own.Spelling.{FitsCancel}
 use Rattle.sched_time.specs.Policies.{policy_text, truth_text}

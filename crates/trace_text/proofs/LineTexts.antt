@@ -4,11 +4,11 @@ use Rattle.std.specs.Prelude.{drop}
 use Rattle.std.specs.Fmt.{decimal}
 use Rattle.std.proofs.lemmas.Bool.{false≢true}
 use Rattle.std.proofs.lemmas.List.{append_cancel_left}
-use Rattle.executor_core.specs.declared.Outcome.{Outcome}
-use Rattle.executor_core.specs.declared.Answer.TheVariants as a
-use Rattle.executor_core.specs.declared.Message.{Message}
-use Rattle.executor_core.specs.declared.Message.TheVariants.{Answer, End}
-use Rattle.executor_core.specs.declared.Line.{Line}
+use Rattle.executor_model.specs.declared.Outcome.{Outcome}
+use Rattle.executor_model.specs.declared.Answer.TheVariants as a
+use Rattle.executor_model.specs.declared.Message.{Message}
+use Rattle.executor_model.specs.declared.Message.TheVariants.{Answer, End}
+use Rattle.executor_model.specs.declared.Line.{Line}
 use Rattle.trace_text.specs.Spelling.{message_text, error_text, outcome_text, cancel_text, line_text, FitsMessage, FitsLine, FitsOutcome}
 use Rattle.trace_text.specs.own.Spelling.{FitsCancel}
 use Rattle.trace_text.specs.Reading.{IsRead, IsUnread, LinesAreOne, EndsNumber, Below, Any, text_then}

@@ -4,12 +4,12 @@ use Rattle.std.specs.Fmt.{decimal}
 use Rattle.std.proofs.lemmas.List.{append_cancel_left}
 use Rattle.sched_time.specs.declared.policies.Which.{Which}
 use Rattle.sched_time.specs.declared.policies.Which.TheVariants as which
-use Rattle.executor_core.specs.declared.Kind.TheVariants as kind
-use Rattle.executor_core.specs.declared.Refusal.TheVariants as refusal
-use Rattle.executor_core.specs.declared.EventError.TheVariants as error
-use Rattle.executor_core.specs.declared.CancelEffect.TheVariants as effect
-use Rattle.executor_core.specs.declared.Outcome.{Outcome}
-use Rattle.executor_core.specs.declared.Outcome.TheVariants as outcome
+use Rattle.executor_model.specs.declared.Kind.TheVariants as kind
+use Rattle.executor_model.specs.declared.Refusal.TheVariants as refusal
+use Rattle.executor_model.specs.declared.EventError.TheVariants as error
+use Rattle.executor_model.specs.declared.CancelEffect.TheVariants as effect
+use Rattle.executor_model.specs.declared.Outcome.{Outcome}
+use Rattle.executor_model.specs.declared.Outcome.TheVariants as outcome
 use Rattle.trace_text.specs.Spelling.{kind_text, refusal_text, error_text, effect_text, whether_text, outcome_text, FitsOutcome}
 use Rattle.sched_time.specs.Policies.{policy_text, truth_text}
 use Rattle.trace_text.specs.Reading.{IsRead, IsUnread, Below, Any, text_then}

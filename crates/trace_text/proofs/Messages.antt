@@ -1,12 +1,12 @@
 -- Messages: what most lines say, and what few do.
 use Rattle.std.proofs.Common.{◌≡◌, ℕ, Bool, true, false, refl}
 use Rattle.sched_time.specs.declared.Which.{Which}
-use Rattle.executor_core.specs.declared.types.Kind.{Kind}
-use Rattle.executor_core.specs.declared.types.Refusal.{Refusal}
-use Rattle.executor_core.specs.declared.types.CancelEffect.{CancelEffect}
-use Rattle.executor_core.specs.declared.types.EventError.{EventError}
-use Rattle.executor_core.specs.declared.said.Said.{Said}
-use Rattle.executor_core.specs.declared.said.Said.TheVariants as s
+use Rattle.executor_model.specs.declared.types.Kind.{Kind}
+use Rattle.executor_model.specs.declared.types.Refusal.{Refusal}
+use Rattle.executor_model.specs.declared.types.CancelEffect.{CancelEffect}
+use Rattle.executor_model.specs.declared.types.EventError.{EventError}
+use Rattle.executor_model.specs.declared.said.Said.{Said}
+use Rattle.executor_model.specs.declared.said.Said.TheVariants as s
 use Rattle.trace_text.specs.own.Messages.{is_common}
 
 -- what is none of these is not common

@@ -1,4 +1,4 @@
-pub use Rattle.executor_core.specs.Histories
+pub use Rattle.executor_model.specs.Histories
 pub mod Spelling
 pub mod Reading
 pub mod Writing

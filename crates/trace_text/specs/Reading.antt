@@ -2,8 +2,8 @@
 use Rattle.std.specs.Prelude.{◌≡◌, ◌≢◌, ℕ, ◌<◌, ◌≤◌, List, ◌++◌, drop, length, codes, slice_index}
 use Rattle.std.specs.Fmt.{decimal}
 use Rattle.std.specs.Int.{IsInRange}
-use Rattle.executor_core.specs.declared.Event.{Event}
-use Rattle.executor_core.specs.declared.Line.{Line}
+use Rattle.executor_model.specs.declared.Event.{Event}
+use Rattle.executor_model.specs.declared.Line.{Line}
 use Rattle.trace_text.specs.declared.front.Front.{Front}
 use Rattle.trace_text.specs.declared.front.Front.TheVariants as front
 use Rattle.trace_text.specs.Spelling.{IsLine, event_line, FitsEvent, line_text, FitsLine}

@@ -6,23 +6,23 @@ use Rattle.std.specs.Fmt.{decimal}
 use Rattle.sched_time.specs.Policies.{policy_text, truth_text}
 use Rattle.sched_time.specs.declared.timing.Ending.{Ending}
 use Rattle.sched_time.specs.declared.timing.Ending.TheVariants as ending
-use Rattle.executor_core.specs.declared.Event.{Event}
-use Rattle.executor_core.specs.declared.Event.TheVariants as event
-use Rattle.executor_core.specs.declared.Kind.{Kind}
-use Rattle.executor_core.specs.declared.Kind.TheVariants as kind
-use Rattle.executor_core.specs.declared.Refusal.{Refusal}
-use Rattle.executor_core.specs.declared.Refusal.TheVariants as refusal
-use Rattle.executor_core.specs.declared.EventError.{EventError}
-use Rattle.executor_core.specs.declared.EventError.TheVariants as error
-use Rattle.executor_core.specs.declared.CancelEffect.{CancelEffect}
-use Rattle.executor_core.specs.declared.CancelEffect.TheVariants as effect
-use Rattle.executor_core.specs.declared.Outcome.{Outcome}
-use Rattle.executor_core.specs.declared.Outcome.TheVariants as outcome
-use Rattle.executor_core.specs.declared.Answer.{Answer}
-use Rattle.executor_core.specs.declared.Answer.TheVariants as answer
-use Rattle.executor_core.specs.declared.Message.{Message}
-use Rattle.executor_core.specs.declared.Message.TheVariants as message
-use Rattle.executor_core.specs.declared.Line.{Line}
+use Rattle.executor_model.specs.declared.Event.{Event}
+use Rattle.executor_model.specs.declared.Event.TheVariants as event
+use Rattle.executor_model.specs.declared.Kind.{Kind}
+use Rattle.executor_model.specs.declared.Kind.TheVariants as kind
+use Rattle.executor_model.specs.declared.Refusal.{Refusal}
+use Rattle.executor_model.specs.declared.Refusal.TheVariants as refusal
+use Rattle.executor_model.specs.declared.EventError.{EventError}
+use Rattle.executor_model.specs.declared.EventError.TheVariants as error
+use Rattle.executor_model.specs.declared.CancelEffect.{CancelEffect}
+use Rattle.executor_model.specs.declared.CancelEffect.TheVariants as effect
+use Rattle.executor_model.specs.declared.Outcome.{Outcome}
+use Rattle.executor_model.specs.declared.Outcome.TheVariants as outcome
+use Rattle.executor_model.specs.declared.Answer.{Answer}
+use Rattle.executor_model.specs.declared.Answer.TheVariants as answer
+use Rattle.executor_model.specs.declared.Message.{Message}
+use Rattle.executor_model.specs.declared.Message.TheVariants as message
+use Rattle.executor_model.specs.declared.Line.{Line}
 
 -- no newline stands among some bytes
 abbrev pub IsLine : List ℕ → Type 0

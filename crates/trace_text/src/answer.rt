@@ -1,7 +1,7 @@
 //! Answers that lines of a trace tell, read behind their first word. Each function here answers what a line says that begins
 //! with that word, of which the bytes are what follows, and what follows its newline; `None` exactly when there is no such line.
 ghost use Rattle.std.specs.Prelude.{MatchOption, ◌++◌, codes};
-ghost use Rattle.executor_core.specs.Said.{message_of};
+ghost use Rattle.executor_model.specs.Said.{message_of};
 ghost use Rattle.trace_text.specs.Spelling.{message_text, FitsMessage, cancel_text};
 ghost use Rattle.trace_text.specs.own.Spelling.{FitsCancel};
 ghost use Rattle.trace_text.specs.Reading.{IsRead, IsUnread};
@@ -13,7 +13,7 @@ use crate::scan::{
 use crate::words::{
     split_effect, split_kind, split_outcome, split_refusal, split_truth, split_whether, split_which,
 };
-use executor_core::{CancelEffect, Said};
+use executor_model::{CancelEffect, Said};
 
 /// A worker that starts a run, or gets no work.
 #[inline(always)]

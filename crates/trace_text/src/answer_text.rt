@@ -6,12 +6,12 @@ ghost use Rattle.std.specs.Fmt.{decimal};
 ghost use Rattle.trace_text.specs.Spelling.{kind_text, refusal_text, effect_text, whether_text, outcome_text, cancel_text, answer_text};
 ghost use Rattle.sched_time.specs.Policies.{policy_text, truth_text};
 ghost use Rattle.trace_text.specs.Writing.{Puts};
-ghost use Rattle.executor_core.specs.declared.Answer.TheVariants as a;
-ghost use Rattle.executor_core.specs.declared.Outcome.TheVariants as o;
+ghost use Rattle.executor_model.specs.declared.Answer.TheVariants as a;
+ghost use Rattle.executor_model.specs.declared.Outcome.TheVariants as o;
 
 use crate::put::{put_number, put_text};
 use crate::words::{CONTINUE, EXECUTE, FIXED_DUE, RATE_DUE, REMOVE, SCHEDULE_DUE};
-use executor_core::{CancelEffect, EventError, Kind, Outcome, Refusal};
+use executor_model::{CancelEffect, EventError, Kind, Outcome, Refusal};
 use sched_time::Which;
 
 /// How many bytes there have to be for an answer.

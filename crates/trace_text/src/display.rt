@@ -5,7 +5,7 @@ ghost use Rattle.trace_text.specs.Spelling.{kind_text};
 use crate::line_text::{LINE_ROOM, put_line};
 use crate::stamp::Stamp;
 use crate::words::{DUE, FIXED_DUE, RATE_DUE, SCHEDULE_DUE};
-use executor_core::{Kind, Line};
+use executor_model::{Kind, Line};
 use std::fmt;
 
 /// The text of a line, with its newline, as [`put_line`] puts it.

@@ -4,7 +4,7 @@ ghost use Rattle.trace_text.specs.Spelling.{Spells, event_line, ending_line, Fit
 ghost use Rattle.trace_text.specs.Reading.{IsRead, IsUnread, number_then, Below};
 
 use crate::scan::{split_number, strip, strip_short_word};
-use executor_core::Event;
+use executor_model::Event;
 use sched_time::Ending;
 
 /// The event that a line spells, given with its newline and nothing after it. `None` exactly when it spells none whose moment

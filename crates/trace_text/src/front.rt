@@ -3,7 +3,7 @@ ghost use Rattle.std.specs.Prelude.{◌↔◌, IsTrue};
 ghost use Rattle.trace_text.specs.Reading.{IsFront, IsPart};
 
 use crate::event::split_event;
-use executor_core::Event;
+use executor_model::Event;
 use memchr::memchr;
 
 /// How many bytes an event's line has at most, with its newline: a longer line is refused, whatever it spells.

@@ -5,7 +5,7 @@ ghost use Rattle.trace_text.specs.Reading.{IsRead, IsUnread};
 
 use crate::message::split_message;
 use crate::scan::split_number_by_loop;
-use executor_core::Line;
+use executor_model::Line;
 
 /// The line of a trace that some bytes spell, given with its newline and nothing after it. `None` exactly when they spell none
 /// whose moments, value and run are below 2^64, whose tasks, numbers of tasks and code are below 2^32 and whose worker is below

@@ -6,7 +6,7 @@ ghost use Rattle.trace_text.specs.Writing.{Puts};
 use crate::message_text::{put_said, put_said_here};
 use crate::stamp::Stamp;
 use crate::text_error::TextError;
-use executor_core::Line;
+use executor_model::Line;
 use std::alloc::Allocator;
 
 /// How many bytes of room are enough for any line of a trace. The longest has 104, with its newline.

@@ -1,6 +1,6 @@
 //! What the lines of a trace say behind their moments, read with the newline.
 ghost use Rattle.std.specs.Prelude.{MatchOption, ◌++◌, codes};
-ghost use Rattle.executor_core.specs.Said.{message_of};
+ghost use Rattle.executor_model.specs.Said.{message_of};
 ghost use Rattle.trace_text.specs.Spelling.{message_text, FitsMessage};
 ghost use Rattle.trace_text.specs.Reading.{IsRead, IsUnread};
 
@@ -10,7 +10,7 @@ use crate::answer::{
 };
 use crate::scan::{code_before, strip_short_word, strip_word};
 use crate::words::split_error;
-use executor_core::Said;
+use executor_model::Said;
 
 /// What a line says whose text behind its moment stands at the front of some bytes, and what follows its newline. The words that
 /// stand in a trace most often are looked for first. It is compiled once for each reader of lines, so that it stands in the loop of

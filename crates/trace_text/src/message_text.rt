@@ -3,15 +3,15 @@ ghost use Rattle.std.specs.Prelude.{◌≡◌, ℕ, ◌+◌, ◌≤◌, length, 
 ghost use Rattle.trace_text.specs.Spelling.{message_text};
 ghost use Rattle.trace_text.specs.Writing.{Puts};
 ghost use Rattle.trace_text.specs.own.Messages.{is_common};
-ghost use Rattle.executor_core.specs.declared.types.Message.TheVariants as m;
-ghost use Rattle.executor_core.specs.Said.{message_of};
+ghost use Rattle.executor_model.specs.declared.types.Message.TheVariants as m;
+ghost use Rattle.executor_model.specs.Said.{message_of};
 
 use crate::answer_text::{
     ANSWER_ROOM, put_again, put_again_here, put_ask, put_done, put_effect, put_error, put_finish,
     put_idle, put_policy, put_refuse, put_start, put_start_here, put_submit, put_submit_here,
 };
 use crate::put::{put_number, put_text};
-use executor_core::{Outcome, Said};
+use executor_model::{Outcome, Said};
 
 /// Puts what a line says at a place of a buffer, and returns where it ends: at most [`ANSWER_ROOM`] bytes on, which have to be
 /// there. What few lines say, and what takes many steps, is put by a call: so this stays small enough for the compiler to put it

@@ -1,6 +1,6 @@
 //! The examples of the comments, as they stand there: `tools/docs` compares them.
 use crate::{Front, front_event, read_event, read_line, write_line};
-use executor_core::{Answer, Event, Line, Message};
+use executor_model::{Answer, Event, Line, Message};
 use sched_time::Ending;
 use std::test::Fail;
 

@@ -1,12 +1,12 @@
 //! Words that lines of a trace end with, or that stand between two numbers of them, with what is fixed behind them.
 ghost use Rattle.std.specs.Prelude.{MatchOption, ◌^◌, ◌++◌, codes};
-ghost use Rattle.executor_core.specs.Said.{message_of};
+ghost use Rattle.executor_model.specs.Said.{message_of};
 ghost use Rattle.trace_text.specs.Spelling.{message_text, FitsMessage, outcome_text, FitsOutcome, kind_text, refusal_text, effect_text, whether_text};
 ghost use Rattle.sched_time.specs.Policies.{policy_text, truth_text};
 ghost use Rattle.trace_text.specs.Reading.{IsRead, IsUnread, Any, Below, number_then, text_then};
 
 use crate::scan::{code_before, number_before, strip, strip_short_word, strip_word};
-use executor_core::{CancelEffect, EventError, Kind, Outcome, Refusal, Said};
+use executor_model::{CancelEffect, EventError, Kind, Outcome, Refusal, Said};
 use sched_time::Which;
 
 /// The word of [`Kind::Schedule`], to the due moment that stands behind it in a line.

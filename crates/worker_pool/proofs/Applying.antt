@@ -7,13 +7,13 @@ use Rattle.once_cell.specs.declared.race.note.Note.{Note}
 use Rattle.task_word.specs.declared.views.CoreSeatView.{CoreSeatView}
 use Rattle.result_cell.specs.declared.verdict.Verdict.{Verdict}
 use Rattle.queue_code.specs.Calls.{task_count}
-use Rattle.executor_core.specs.declared.types.Answer.{Answer}
-use Rattle.executor_core.specs.declared.types.Event.{Event}
-use Rattle.executor_core.specs.declared.types.Event.TheVariants as v
-use Rattle.executor_core.specs.declared.types.Happening.{Happening}
-use Rattle.executor_core.specs.declared.types.Line.{Line}
-use Rattle.executor_core.specs.Histories.{HistoryEntry, IsHistoryOf, happenings, is_call, now_of, is_end as stands_in}
-use Rattle.executor_core.specs.Flows.{happening_of, answer_line, lines_of}
+use Rattle.executor_model.specs.declared.types.Answer.{Answer}
+use Rattle.executor_model.specs.declared.types.Event.{Event}
+use Rattle.executor_model.specs.declared.types.Event.TheVariants as v
+use Rattle.executor_model.specs.declared.types.Happening.{Happening}
+use Rattle.executor_model.specs.declared.types.Line.{Line}
+use Rattle.executor_model.specs.Histories.{HistoryEntry, IsHistoryOf, happenings, is_call, now_of, is_end as stands_in}
+use Rattle.executor_model.specs.Flows.{happening_of, answer_line, lines_of}
 use Rattle.executor_core.specs.CoreView.{CoreView, workers_of, Counts}
 use Rattle.worker_pool.specs.own.Results.{TookVerdict}
 use Rattle.worker_pool.specs.Books.{BookView, IsBook, KnowsVerdict, EndedSo, ending_in, past_of, was_outside}

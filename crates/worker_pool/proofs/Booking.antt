@@ -14,18 +14,18 @@ use Rattle.task_word.specs.Views.{entry, new_core}
 use Rattle.task_word.specs.declared.views.CoreSeatView.{CoreSeatView}
 use Rattle.result_cell.specs.declared.verdict.Verdict.{Verdict}
 use Rattle.queue_code.specs.Calls.{Planned, IsOrderly, IsPlanned, task_count}
-use Rattle.executor_core.specs.declared.types.Answer.{Answer}
-use Rattle.executor_core.specs.declared.types.Answer.TheVariants as a
-use Rattle.executor_core.specs.declared.types.Outcome.{Outcome}
-use Rattle.executor_core.specs.declared.types.Outcome.TheVariants as o
-use Rattle.executor_core.specs.declared.types.Need.TheVariants as n
-use Rattle.executor_core.specs.Histories.{HistoryEntry, IsHistoryOf, is_finish_with, is_done, is_failed, was_done, was_failed, is_end as stands_in}
-use Rattle.executor_core.specs.Answers.{Reply}
-use Rattle.executor_core.specs.State.{State, vacant, reply_of}
-use Rattle.executor_core.specs.Tasks.{word_of_task}
+use Rattle.executor_model.specs.declared.types.Answer.{Answer}
+use Rattle.executor_model.specs.declared.types.Answer.TheVariants as a
+use Rattle.executor_model.specs.declared.types.Outcome.{Outcome}
+use Rattle.executor_model.specs.declared.types.Outcome.TheVariants as o
+use Rattle.executor_model.specs.declared.types.Need.TheVariants as n
+use Rattle.executor_model.specs.Histories.{HistoryEntry, IsHistoryOf, is_finish_with, is_done, is_failed, was_done, was_failed, is_end as stands_in}
+use Rattle.executor_model.specs.Answers.{Reply}
+use Rattle.executor_model.specs.State.{State, vacant, reply_of}
+use Rattle.executor_model.specs.Tasks.{word_of_task}
 use Rattle.executor_core.specs.CoreView.{CoreView, IsOpening}
-use Rattle.executor_core.specs.Needs.{need_of_answer}
-use Rattle.executor_core.proofs.Agree.{after_agrees, answers_alike}
+use Rattle.executor_model.specs.Needs.{need_of_answer}
+use Rattle.executor_model.proofs.Agree.{after_agrees, answers_alike}
 use Rattle.executor_laws.specs.TaskWords.{word_after}
 use Rattle.executor_laws.proofs.TaskWords.{words_tell_the_history}
 use Rattle.worker_pool.specs.Books.{BookView, IsBook, KnowsVerdict, EndedSo, FitsWord, ending_in, ending_of_outcome, past_of, is_outside, was_outside}

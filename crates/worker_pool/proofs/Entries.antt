@@ -8,11 +8,11 @@ use Rattle.task_word.specs.Words.{is_cancelled}
 use Rattle.task_word.specs.Views.{entry}
 use Rattle.task_word.specs.declared.views.CoreSeatView.{CoreSeatView}
 use Rattle.queue_code.specs.Calls.{Planned}
-use Rattle.executor_core.specs.declared.types.Happening.{Happening}
-use Rattle.executor_core.specs.declared.types.Happening.TheVariants as h
-use Rattle.executor_core.specs.declared.types.Line.{Line}
-use Rattle.executor_core.specs.Histories.{HistoryEntry, IsHistoryOf, happenings, is_call, cancels, was_cancelled, answer, now_of, is_end as stands_in}
-use Rattle.executor_core.specs.Flows.{answer_line, lines_at, lines_of, reply_in}
+use Rattle.executor_model.specs.declared.types.Happening.{Happening}
+use Rattle.executor_model.specs.declared.types.Happening.TheVariants as h
+use Rattle.executor_model.specs.declared.types.Line.{Line}
+use Rattle.executor_model.specs.Histories.{HistoryEntry, IsHistoryOf, happenings, is_call, cancels, was_cancelled, answer, now_of, is_end as stands_in}
+use Rattle.executor_model.specs.Flows.{answer_line, lines_at, lines_of, reply_in}
 use Rattle.executor_laws.proofs.TaskWords.{words_tell_the_history}
 use Rattle.executor_laws.proofs.Policies.{tasks_are_cancelled_once}
 use Rattle.worker_pool.specs.Books.{is_outside, was_outside}

@@ -7,12 +7,12 @@ use Rattle.std.proofs.lemmas.List.Elements.{All-nil, All-cons, All-head, All-tai
 use Rattle.task_word.specs.Views.{and_if}
 use Rattle.task_word.specs.declared.views.CoreSeatView.{CoreSeatView}
 use Rattle.queue_code.specs.Calls.{Planned}
-use Rattle.executor_core.specs.declared.types.Event.{Event}
-use Rattle.executor_core.specs.declared.types.Happening.{Happening}
-use Rattle.executor_core.specs.declared.types.Happening.TheVariants as h
-use Rattle.executor_core.specs.Histories.{HistoryEntry, happenings, is_call, cancels, was_cancelled, answer, is_end as stands_in}
-use Rattle.executor_core.specs.Answers.{moment_after}
-use Rattle.executor_core.specs.Flows.{happening_of, calls_before, CallComes, EventComes}
+use Rattle.executor_model.specs.declared.types.Event.{Event}
+use Rattle.executor_model.specs.declared.types.Happening.{Happening}
+use Rattle.executor_model.specs.declared.types.Happening.TheVariants as h
+use Rattle.executor_model.specs.Histories.{HistoryEntry, happenings, is_call, cancels, was_cancelled, answer, is_end as stands_in}
+use Rattle.executor_model.specs.Answers.{moment_after}
+use Rattle.executor_model.specs.Flows.{happening_of, calls_before, CallComes, EventComes}
 use Rattle.executor_core.specs.CoreView.{CoreView, workers_of}
 use Rattle.worker_pool.specs.Applies.{SaysYes, calls_in, is_in_way, WereInWay}
 use Rattle.worker_pool.specs.own.Steps.{SamePlan, OnlyOwnGrows, Noting, OnlyNoted, NotedFor, IsPassed, Passes, Completes, MovesOn, part_in, past_in}
@@ -157,9 +157,9 @@ takes_one plan calls n workers own new_own past mid new_past y noting way more g
     let r = answer calls workers mid y in
     let none = no_calls noting.noted noting.each in
     record {
-      last = Rattle.executor_core.specs.Histories.entry_of y r;
+      last = Rattle.executor_model.specs.Histories.entry_of y r;
       between = noting.noted;
-      past = more ∙ ap (λ xs. Rattle.executor_core.specs.Histories.entry_of y r ∷ xs) noting.past;
+      past = more ∙ ap (λ xs. Rattle.executor_model.specs.Histories.entry_of y r ∷ xs) noting.past;
       each = All-weaker Yes IsPassed (λ e said. inr said) noting.noted noting.each;
       way = way;
       part = ap (λ xs. y ∷ happenings xs) none;
@@ -253,7 +253,7 @@ passes_take plan n y a b c p q r one first second = record {
 -- a call was made after noted cancels
 pub call_after : (old mid new : CoreView) (before happened : List Happening) → OnlyNoted old mid before happened → MovesOn mid new h.Call → MovesOn old new h.Call
 call_after old mid new before happened noted on = record {
-  made = on.made ∙ ap (λ k. Rattle.executor_core.specs.Histories.made_after k h.Call) noted.made;
+  made = on.made ∙ ap (λ k. Rattle.executor_model.specs.Histories.made_after k h.Call) noted.made;
   moment = on.moment ∙ (λ i. moment_after (noted.moment i) (slice_get (noted.same.calls i) (noted.made i)) h.Call);
 }
 
@@ -262,11 +262,11 @@ call_after old mid new before happened noted on = record {
 -- a call of it was made, once cancels were noted
 pub part_call : (old mid new : CoreView) (event : Event) (part more : List Happening) → part ≡ part_in mid event ++ more → new.calls ≡ mid.calls → CallComes mid.calls mid.made mid.moment event → MovesOn mid new h.Call → part ≡ part_in new event ++ (h.Call ∷ more)
 part_call old mid new event part more is calls comes on =
-    is ∙ (ap (λ xs. xs ++ more) (comes.rest ∙ (λ i. Rattle.executor_core.specs.Flows.part_of (sym calls i) (sym on.made i) (sym on.moment i) event ++ h.Call ∷ [])) ∙ append_assoc (part_in new event) (h.Call ∷ []) more)
+    is ∙ (ap (λ xs. xs ++ more) (comes.rest ∙ (λ i. Rattle.executor_model.specs.Flows.part_of (sym calls i) (sym on.made i) (sym on.moment i) event ++ h.Call ∷ [])) ∙ append_assoc (part_in new event) (h.Call ∷ []) more)
 
 -- cancels alone were noted
 pub part_same : (mid new : CoreView) (event : Event) → new.calls ≡ mid.calls → new.made ≡ mid.made → new.moment ≡ mid.moment → part_in mid event ≡ part_in new event
-part_same mid new event calls made moment = λ i. Rattle.executor_core.specs.Flows.part_of (sym calls i) (sym made i) (sym moment i) event
+part_same mid new event calls made moment = λ i. Rattle.executor_model.specs.Flows.part_of (sym calls i) (sym made i) (sym moment i) event
 
 -- the event is all that is left
 pub part_last : (mid : CoreView) (event : Event) (part more : List Happening) → part ≡ part_in mid event ++ more → EventComes mid.calls mid.made mid.moment event → part ≡ (happening_of event ∷ []) ++ more
@@ -275,7 +275,7 @@ part_last mid event part more is comes = is ∙ ap (λ xs. xs ++ more) comes.alo
 -- a call comes next, or the event itself, and not both
 pub one_comes : (calls : List Planned) (made now : ℕ) (event : Event) → CallComes calls made now event → EventComes calls made now event → ⊥
 one_comes calls made now event call last =
-    let rest = replicate (calls_before calls (Rattle.executor_core.specs.Histories.made_after made h.Call) (moment_after now (slice_get calls made) h.Call) event) h.Call in
+    let rest = replicate (calls_before calls (Rattle.executor_model.specs.Histories.made_after made h.Call) (moment_after now (slice_get calls made) h.Call) event) h.Call in
     let none : [] ≡ rest ++ h.Call ∷ [] = ap (drop 1) (sym last.alone ∙ call.rest) in
     let many = length-append rest (h.Call ∷ []) in
     let count = ap length none in

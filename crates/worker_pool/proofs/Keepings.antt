@@ -7,22 +7,22 @@ use Rattle.std.proofs.lemmas.List.{reverse-append}
 use Rattle.std.proofs.lemmas.List.Elements.{All-nil, All-cons}
 use Rattle.task_word.specs.declared.views.CoreSeatView.{CoreSeatView}
 use Rattle.queue_code.specs.Calls.{Planned, task_count}
-use Rattle.executor_core.specs.declared.types.CancelEffect.TheVariants as f
-use Rattle.executor_core.specs.declared.types.Answer.TheVariants as a
-use Rattle.executor_core.specs.declared.types.Happening.{Happening}
-use Rattle.executor_core.specs.declared.types.Happening.TheVariants as h
-use Rattle.executor_core.specs.declared.types.Need.{Need}
-use Rattle.executor_core.specs.declared.types.Need.TheVariants as n
-use Rattle.executor_core.specs.declared.types.Line.{Line}
-use Rattle.executor_core.specs.View.{View}
-use Rattle.executor_core.specs.Answers.{Reply, bare}
-use Rattle.executor_core.specs.Histories.{HistoryEntry, IsHistoryOf, happenings, is_call, is_end, MayFrom, MayCome}
-use Rattle.executor_core.specs.Flows.{history_from, lines_of}
-use Rattle.executor_core.specs.State.{State, vacant, after, next, reply_of, view_of_state}
+use Rattle.executor_model.specs.declared.types.CancelEffect.TheVariants as f
+use Rattle.executor_model.specs.declared.types.Answer.TheVariants as a
+use Rattle.executor_model.specs.declared.types.Happening.{Happening}
+use Rattle.executor_model.specs.declared.types.Happening.TheVariants as h
+use Rattle.executor_model.specs.declared.types.Need.{Need}
+use Rattle.executor_model.specs.declared.types.Need.TheVariants as n
+use Rattle.executor_model.specs.declared.types.Line.{Line}
+use Rattle.executor_model.specs.View.{View}
+use Rattle.executor_model.specs.Answers.{Reply, bare}
+use Rattle.executor_model.specs.Histories.{HistoryEntry, IsHistoryOf, happenings, is_call, is_end, MayFrom, MayCome}
+use Rattle.executor_model.specs.Flows.{history_from, lines_of}
+use Rattle.executor_model.specs.State.{State, vacant, after, next, reply_of, view_of_state}
 use Rattle.executor_core.specs.CoreView.{CoreView, workers_of, state_of, Steps, IsCounted, ContinuesWith, GivesRoom, comes_before_event}
-use Rattle.executor_core.specs.Needs.{need_of}
-use Rattle.executor_core.proofs.Agree.{after_agrees}
-use Rattle.executor_core.proofs.Flowing.{step_continues}
+use Rattle.executor_model.specs.Needs.{need_of}
+use Rattle.executor_model.proofs.Agree.{after_agrees}
+use Rattle.executor_core.proofs.Continuing.{step_continues}
 use Rattle.executor_laws.specs.NeedWrites.{writes_of}
 use Rattle.executor_laws.specs.Cancels.{is_needed}
 use Rattle.executor_laws.specs.TaskWords.{word_after}
@@ -46,8 +46,8 @@ past_more m next_m happened items y calls workers more =
     (λ i. history_for (calls i) (workers i) items)
     ∙ ap (history_from m.calls (workers_of m) []) (ap reverse more ∙ reverse-append happened (y ∷ []))
 
-may_from : (calls : List Planned) (past : List Happening) (y : Happening) (made now : ℕ) → MayFrom calls made now y → made ≡ Rattle.executor_core.specs.Histories.made past → now ≡ Rattle.executor_core.specs.Histories.now_of calls past → MayCome calls past y
-may_from calls past y made now may q r = subst (λ k. MayFrom calls k (Rattle.executor_core.specs.Histories.now_of calls past) y) q (subst (λ t. MayFrom calls made t y) r may)
+may_from : (calls : List Planned) (past : List Happening) (y : Happening) (made now : ℕ) → MayFrom calls made now y → made ≡ Rattle.executor_model.specs.Histories.made past → now ≡ Rattle.executor_model.specs.Histories.now_of calls past → MayCome calls past y
+may_from calls past y made now may q r = subst (λ k. MayFrom calls k (Rattle.executor_model.specs.Histories.now_of calls past) y) q (subst (λ t. MayFrom calls made t y) r may)
 
 -- one happening more, once the seat agrees with it
 pub keeps_more : (m next_m : CoreView) (v next_v : CoreSeatView) (happened items : List Happening) (lines next_lines : List Line) (y : Happening) → IsKept m v happened lines → Comes m y → Steps m next_m lines next_lines (y ∷ []) → items ≡ happened ++ y ∷ [] →
@@ -57,7 +57,7 @@ keeps_more m next_m v next_v happened items lines next_lines y kept may steps mo
     let workers = workers_of m in
     let past = history_for calls workers happened in
     let all = after_agrees calls workers past kept.means in
-    let view : view_of_state calls (state_of m) ≡ Rattle.executor_core.specs.Histories.view_of_history calls past = ap (view_of_state calls) kept.stands ∙ all.view in
+    let view : view_of_state calls (state_of m) ≡ Rattle.executor_model.specs.Histories.view_of_history calls past = ap (view_of_state calls) kept.stands ∙ all.view in
     let may_now = may_from calls (happenings past) y m.made m.moment may (ap (λ (x : View). x.made) view) (ap (λ (x : View). x.moment) view) in
     let con : ContinuesWith m next_m lines next_lines (y ∷ []) past = step_continues m next_m lines next_lines y steps past kept.means kept.stands may_now in
     let turned : reverse items ≡ y ∷ reverse happened = ap reverse more ∙ reverse-append happened (y ∷ []) in
@@ -160,7 +160,7 @@ notes_one m next_m v next_v happened items lines next_lines k kept was steps mor
           counted = counted;
           sweeps = stays;
           noting = record {
-            noted = Rattle.executor_core.specs.Histories.entry_of (h.Cancel k) (Rattle.executor_core.specs.Histories.answer calls workers past (h.Cancel k)) ∷ [];
+            noted = Rattle.executor_model.specs.Histories.entry_of (h.Cancel k) (Rattle.executor_model.specs.Histories.answer calls workers past (h.Cancel k)) ∷ [];
             past = past_more m next_m happened items (h.Cancel k) steps.calls steps.workers more;
             each = All-cons (λ e. (k : ℕ) × SaysYes e k) _ [] (k, record { happening = refl; answer = ap (λ (r : Reply). r.answer) note.said }) (All-nil (λ e. (k : ℕ) × SaysYes e k));
           };
@@ -174,7 +174,7 @@ notes_one m next_m v next_v happened items lines next_lines k kept was steps mor
     )
 
 -- an event sweeps nothing
-pub events_sweep_nothing : (m : CoreView) (y : Happening) → Rattle.executor_core.specs.Histories.is_call y ≡ false → need_in m y ≢ n.Sweep
+pub events_sweep_nothing : (m : CoreView) (y : Happening) → Rattle.executor_model.specs.Histories.is_call y ≡ false → need_in m y ≢ n.Sweep
 events_sweep_nothing m y event is = only_calls_sweep m.calls (workers_of m) (state_of m) y event is
 
 -- what may come may come after cancels were noted

@@ -5,7 +5,7 @@ use Rattle.task_word.specs.Answers.{after_cancel}
 use Rattle.task_word.specs.declared.answers.CoreCancel.{CoreCancel}
 use Rattle.task_word.specs.declared.answers.CoreCancel.TheVariants as core
 use Rattle.task_word.specs.declared.views.CoreSeatView.{CoreSeatView}
-use Rattle.executor_core.specs.declared.types.Need.TheVariants as n
+use Rattle.executor_model.specs.declared.types.Need.TheVariants as n
 use Rattle.worker_pool.specs.own.Moves.{IsFresh, WasMet, moves_made}
 
 pub late_met : (tasks : ℕ) (v next : CoreSeatView) (k : ℕ) (answer : CoreCancel) → IsFresh tasks v k (λ e. is_live e.phase ≡ true) → answer ≡ core.Late → next ≡ after_cancel v k answer → WasMet tasks v next k

@@ -8,10 +8,10 @@ use Rattle.task_word.specs.Steps.{CoreTells}
 use Rattle.task_word.specs.declared.views.CoreSeatView.{CoreSeatView}
 use Rattle.task_word.proofs.Uses.{entry_here, entry_other, entry_count}
 use Rattle.queue_code.specs.Calls.{task_count}
-use Rattle.executor_core.specs.declared.types.Happening.{Happening}
-use Rattle.executor_core.specs.declared.types.Line.{Line}
-use Rattle.executor_core.specs.Histories.{HistoryEntry}
-use Rattle.executor_core.specs.State.{State, vacant}
+use Rattle.executor_model.specs.declared.types.Happening.{Happening}
+use Rattle.executor_model.specs.declared.types.Line.{Line}
+use Rattle.executor_model.specs.Histories.{HistoryEntry}
+use Rattle.executor_model.specs.State.{State, vacant}
 use Rattle.executor_core.specs.CoreView.{CoreView, workers_of}
 use Rattle.executor_laws.specs.TaskWords.{word_after}
 use Rattle.worker_pool.specs.Books.{FitsWord}

@@ -14,12 +14,12 @@ use Rattle.task_word.specs.declared.views.CoreSeatView.{CoreSeatView}
 use Rattle.task_word.specs.declared.views.HandleSeatView.{HandleSeatView}
 use Rattle.task_word.proofs.Uses.{greater_right}
 use Rattle.queue_code.specs.Calls.{Planned, task_count}
-use Rattle.executor_core.specs.declared.types.Happening.{Happening}
-use Rattle.executor_core.specs.declared.types.Line.{Line}
-use Rattle.executor_core.specs.Histories.{HistoryEntry, IsHistoryOf, is_end as stands_in}
-use Rattle.executor_core.specs.Flows.{history_from}
-use Rattle.executor_core.specs.State.{State, vacant}
-use Rattle.executor_core.specs.Tasks.{word_of_task}
+use Rattle.executor_model.specs.declared.types.Happening.{Happening}
+use Rattle.executor_model.specs.declared.types.Line.{Line}
+use Rattle.executor_model.specs.Histories.{HistoryEntry, IsHistoryOf, is_end as stands_in}
+use Rattle.executor_model.specs.Flows.{history_from}
+use Rattle.executor_model.specs.State.{State, vacant}
+use Rattle.executor_model.specs.Tasks.{word_of_task}
 use Rattle.executor_core.specs.CoreView.{CoreView, workers_of}
 use Rattle.executor_laws.proofs.TaskWords.{words_tell_the_history}
 use Rattle.worker_pool.specs.Books.{BookView, IsBook, KnowsVerdict, past_of, was_outside}

@@ -5,8 +5,8 @@ use Rattle.std.proofs.lemmas.Bool.{false≢true, eq-eqb, eqb-true}
 use Rattle.once_cell.specs.declared.race.note.Note.{Note}
 use Rattle.sched_time.specs.declared.timing.Ending.{Ending}
 use Rattle.result_cell.specs.declared.verdict.Verdict.{Verdict}
-use Rattle.executor_core.specs.declared.types.Answer.{Answer}
-use Rattle.executor_core.specs.declared.types.Answer.TheVariants as a
+use Rattle.executor_model.specs.declared.types.Answer.{Answer}
+use Rattle.executor_model.specs.declared.types.Answer.TheVariants as a
 use Rattle.worker_pool.specs.Books.{ending_in, ending_of_outcome}
 use Rattle.worker_pool.specs.own.Results.{HasNoteOf, TookVerdict, verdict_in, verdict_told}
 use Rattle.worker_pool.proofs.Bools.{same_eqb}

@@ -4,14 +4,14 @@ use Rattle.std.proofs.lemmas.Bool.{false≢true}
 use Rattle.worker_pool.specs.declared.error.PoolError.{PoolError}
 use Rattle.worker_pool.specs.declared.error.PoolError.TheVariants as p
 use Rattle.std.specs.Prelude.{slice_index_or, IfOk, Result, Ok, Err}
-use Rattle.executor_core.specs.declared.types.Answer.TheVariants as a
-use Rattle.executor_core.specs.declared.types.EventError.TheVariants as x
-use Rattle.executor_core.specs.declared.types.Event.{Event}
-use Rattle.executor_core.specs.declared.types.Event.TheVariants as v
-use Rattle.executor_core.specs.declared.types.Happening.{Happening}
-use Rattle.executor_core.specs.declared.types.Happening.TheVariants as h
-use Rattle.executor_core.specs.Histories.{IsHistoryOf, answer, happenings, now_of}
-use Rattle.executor_core.specs.Flows.{lines_at, lines_of, reply_in}
+use Rattle.executor_model.specs.declared.types.Answer.TheVariants as a
+use Rattle.executor_model.specs.declared.types.EventError.TheVariants as x
+use Rattle.executor_model.specs.declared.types.Event.{Event}
+use Rattle.executor_model.specs.declared.types.Event.TheVariants as v
+use Rattle.executor_model.specs.declared.types.Happening.{Happening}
+use Rattle.executor_model.specs.declared.types.Happening.TheVariants as h
+use Rattle.executor_model.specs.Histories.{IsHistoryOf, answer, happenings, now_of}
+use Rattle.executor_model.specs.Flows.{lines_at, lines_of, reply_in}
 use Rattle.executor_core.specs.CoreView.{workers_of}
 use Rattle.worker_pool.specs.declared.applied.Applied.{Applied}
 use Rattle.worker_pool.specs.Books.{BookView, IsBook, past_of}

@@ -16,22 +16,22 @@ use Rattle.task_word.proofs.Uses.{entry_here, entry_other, entry_count}
 use Rattle.queue_code.specs.declared.call.CodeCall.{CodeCall}
 use Rattle.queue_code.specs.declared.call.CodeCall.TheVariants as c
 use Rattle.queue_code.specs.Calls.{Planned, IsOrderly, task_count}
-use Rattle.executor_core.specs.declared.types.CancelEffect.TheVariants as f
-use Rattle.executor_core.specs.declared.types.EventError.TheVariants as x
-use Rattle.executor_core.specs.declared.types.Outcome.TheVariants as o
-use Rattle.executor_core.specs.declared.types.Answer.{Answer}
-use Rattle.executor_core.specs.declared.types.Answer.TheVariants as a
-use Rattle.executor_core.specs.declared.types.Happening.{Happening}
-use Rattle.executor_core.specs.declared.types.Happening.TheVariants as h
-use Rattle.executor_core.specs.declared.types.Need.{Need}
-use Rattle.executor_core.specs.declared.types.Need.TheVariants as n
-use Rattle.executor_core.specs.View.{View}
-use Rattle.executor_core.specs.Answers.{Reply, bare, called, swept, setting_sweeps}
+use Rattle.executor_model.specs.declared.types.CancelEffect.TheVariants as f
+use Rattle.executor_model.specs.declared.types.EventError.TheVariants as x
+use Rattle.executor_model.specs.declared.types.Outcome.TheVariants as o
+use Rattle.executor_model.specs.declared.types.Answer.{Answer}
+use Rattle.executor_model.specs.declared.types.Answer.TheVariants as a
+use Rattle.executor_model.specs.declared.types.Happening.{Happening}
+use Rattle.executor_model.specs.declared.types.Happening.TheVariants as h
+use Rattle.executor_model.specs.declared.types.Need.{Need}
+use Rattle.executor_model.specs.declared.types.Need.TheVariants as n
+use Rattle.executor_model.specs.View.{View}
+use Rattle.executor_model.specs.Answers.{Reply, bare, called, swept, setting_sweeps}
 use Rattle.sched_time.specs.Policies.{set_policy}
-use Rattle.executor_core.specs.Histories.{HistoryEntry, IsHistoryOf, happenings, answer, entry_of, had_effect, is_end, cancels, was_cancelled, is_end as stands_in}
-use Rattle.executor_core.specs.State.{State, view_of_state, after, reply_of}
-use Rattle.executor_core.specs.Needs.{need_of, need_of_answer}
-use Rattle.executor_core.proofs.Agree.{after_agrees, answers_alike}
+use Rattle.executor_model.specs.Histories.{HistoryEntry, IsHistoryOf, happenings, answer, entry_of, had_effect, is_end, cancels, was_cancelled, is_end as stands_in}
+use Rattle.executor_model.specs.State.{State, view_of_state, after, reply_of}
+use Rattle.executor_model.specs.Needs.{need_of, need_of_answer}
+use Rattle.executor_model.proofs.Agree.{after_agrees, answers_alike}
 use Rattle.executor_laws.specs.TaskWords.{word_after}
 use Rattle.executor_laws.specs.NeedWrites.{writes_of, IsWritten, MakesWrites}
 use Rattle.executor_laws.specs.Cancels.{effect_on_word, outside_answer}

@@ -12,17 +12,17 @@ use Rattle.task_word.specs.declared.answers.CoreCancel.TheVariants as core
 use Rattle.task_word.specs.Answers.{after_cancel}
 use Rattle.task_word.proofs.Uses.{entry_here, entry_other, entry_count}
 use Rattle.queue_code.specs.Calls.{Planned, IsOrderly, task_count}
-use Rattle.executor_core.specs.declared.types.Happening.{Happening}
-use Rattle.executor_core.specs.declared.types.Happening.TheVariants as h
-use Rattle.executor_core.specs.declared.types.Line.{Line}
-use Rattle.executor_core.specs.declared.types.Need.TheVariants as n
-use Rattle.executor_core.specs.Histories.{HistoryEntry, IsHistoryOf, answer, cancels, is_end, is_end as stands_in}
-use Rattle.executor_core.specs.State.{view_of_state, reply_of}
-use Rattle.executor_core.specs.Tasks.{word_phase}
-use Rattle.executor_core.specs.Needs.{need_of}
+use Rattle.executor_model.specs.declared.types.Happening.{Happening}
+use Rattle.executor_model.specs.declared.types.Happening.TheVariants as h
+use Rattle.executor_model.specs.declared.types.Line.{Line}
+use Rattle.executor_model.specs.declared.types.Need.TheVariants as n
+use Rattle.executor_model.specs.Histories.{HistoryEntry, IsHistoryOf, answer, cancels, is_end, is_end as stands_in}
+use Rattle.executor_model.specs.State.{view_of_state, reply_of}
+use Rattle.executor_model.specs.Tasks.{word_phase}
+use Rattle.executor_model.specs.Needs.{need_of}
 use Rattle.executor_core.specs.CoreView.{CoreView, workers_of, Steps}
-use Rattle.executor_core.proofs.Agree.{after_agrees}
-use Rattle.executor_core.proofs.Sound.{waits_in}
+use Rattle.executor_model.proofs.Agree.{after_agrees}
+use Rattle.executor_model.proofs.Sound.{waits_in}
 use Rattle.executor_laws.specs.TaskWords.{word_after}
 use Rattle.executor_laws.specs.NeedWrites.{writes_of, IsWritten, MakesWrites}
 use Rattle.executor_laws.proofs.Replies.{ends_say}

@@ -7,25 +7,25 @@ use Rattle.sched_time.specs.Times.{longest}
 use Rattle.sched_time.specs.declared.timing.Ending.{Ending}
 use Rattle.task_word.specs.declared.views.CoreSeatView.{CoreSeatView}
 use Rattle.queue_code.specs.Calls.{Planned, numbers, task_count}
-use Rattle.executor_core.specs.declared.types.CancelEffect.{CancelEffect}
-use Rattle.executor_core.specs.declared.types.CancelEffect.TheVariants as f
-use Rattle.executor_core.specs.declared.types.EventError.TheVariants as x
-use Rattle.executor_core.specs.declared.types.Event.{Event}
-use Rattle.executor_core.specs.declared.types.Event.TheVariants as v
-use Rattle.executor_core.specs.declared.types.Outcome.TheVariants as o
-use Rattle.executor_core.specs.declared.types.Answer.{Answer}
-use Rattle.executor_core.specs.declared.types.Answer.TheVariants as a
-use Rattle.executor_core.specs.declared.types.Happening.{Happening}
-use Rattle.executor_core.specs.declared.types.Happening.TheVariants as h
-use Rattle.executor_core.specs.declared.types.Line.{Line}
-use Rattle.executor_core.specs.View.{View, first_enabled}
-use Rattle.executor_core.specs.Answers.{Reply, start_answer, effect_on}
-use Rattle.executor_core.specs.Histories.{HistoryEntry, IsHistoryOf}
-use Rattle.executor_core.specs.Flows.{happening_of}
-use Rattle.executor_core.specs.State.{State, view_of_state, reply_of}
-use Rattle.executor_core.specs.Needs.{need_of, need_of_answer}
+use Rattle.executor_model.specs.declared.types.CancelEffect.{CancelEffect}
+use Rattle.executor_model.specs.declared.types.CancelEffect.TheVariants as f
+use Rattle.executor_model.specs.declared.types.EventError.TheVariants as x
+use Rattle.executor_model.specs.declared.types.Event.{Event}
+use Rattle.executor_model.specs.declared.types.Event.TheVariants as v
+use Rattle.executor_model.specs.declared.types.Outcome.TheVariants as o
+use Rattle.executor_model.specs.declared.types.Answer.{Answer}
+use Rattle.executor_model.specs.declared.types.Answer.TheVariants as a
+use Rattle.executor_model.specs.declared.types.Happening.{Happening}
+use Rattle.executor_model.specs.declared.types.Happening.TheVariants as h
+use Rattle.executor_model.specs.declared.types.Line.{Line}
+use Rattle.executor_model.specs.View.{View, first_enabled}
+use Rattle.executor_model.specs.Answers.{Reply, start_answer, effect_on}
+use Rattle.executor_model.specs.Histories.{HistoryEntry, IsHistoryOf}
+use Rattle.executor_model.specs.Flows.{happening_of}
+use Rattle.executor_model.specs.State.{State, view_of_state, reply_of}
+use Rattle.executor_model.specs.Needs.{need_of, need_of_answer}
 use Rattle.executor_core.specs.CoreView.{CoreView, workers_of}
-use Rattle.executor_core.proofs.Agree.{after_agrees, answers_alike}
+use Rattle.executor_model.proofs.Agree.{after_agrees, answers_alike}
 use Rattle.worker_pool.specs.Books.{BookView, IsBook, past_of}
 use Rattle.worker_pool.specs.own.Results.{puts_verdict, verdict_in}
 use Rattle.worker_pool.proofs.Steps.{state_at}

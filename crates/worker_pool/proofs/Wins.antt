@@ -7,7 +7,7 @@ use Rattle.task_word.specs.declared.answers.CancelAnswer.{CancelAnswer}
 use Rattle.task_word.specs.declared.answers.CancelAnswer.TheVariants as cancel
 use Rattle.task_word.specs.declared.answers.TaskState.{TaskState}
 use Rattle.task_word.specs.declared.views.HandleSeatView.{HandleSeatView}
-use Rattle.executor_core.specs.Histories.{is_end as stands_in}
+use Rattle.executor_model.specs.Histories.{is_end as stands_in}
 use Rattle.worker_pool.specs.own.Steps.{WinsBelow}
 use Rattle.worker_pool.proofs.Sweeps.{low_or}
 

@@ -7,17 +7,17 @@ use Rattle.task_word.specs.Steps.{CoreTells}
 use Rattle.task_word.specs.declared.views.CoreSeatView.{CoreSeatView}
 use Rattle.task_word.specs.declared.views.HandleSeatView.{HandleSeatView}
 use Rattle.queue_code.specs.Calls.{Planned, task_count}
-use Rattle.executor_core.specs.declared.types.CancelEffect.TheVariants as f
-use Rattle.executor_core.specs.declared.types.Answer.{Answer}
-use Rattle.executor_core.specs.declared.types.Answer.TheVariants as a
-use Rattle.executor_core.specs.declared.types.Event.{Event}
-use Rattle.executor_core.specs.declared.types.Happening.{Happening}
-use Rattle.executor_core.specs.declared.types.Happening.TheVariants as h
-use Rattle.executor_core.specs.Histories.{HistoryEntry, happenings, is_call, is_end, was_cancelled, is_end as stands_in}
-use Rattle.executor_core.specs.Flows.{part_of}
-use Rattle.executor_core.specs.State.{vacant, after, reply_of}
-use Rattle.executor_core.specs.Tasks.{word_of_task}
-use Rattle.executor_core.specs.Needs.{need_of}
+use Rattle.executor_model.specs.declared.types.CancelEffect.TheVariants as f
+use Rattle.executor_model.specs.declared.types.Answer.{Answer}
+use Rattle.executor_model.specs.declared.types.Answer.TheVariants as a
+use Rattle.executor_model.specs.declared.types.Event.{Event}
+use Rattle.executor_model.specs.declared.types.Happening.{Happening}
+use Rattle.executor_model.specs.declared.types.Happening.TheVariants as h
+use Rattle.executor_model.specs.Histories.{HistoryEntry, happenings, is_call, is_end, was_cancelled, is_end as stands_in}
+use Rattle.executor_model.specs.Flows.{part_of}
+use Rattle.executor_model.specs.State.{vacant, after, reply_of}
+use Rattle.executor_model.specs.Tasks.{word_of_task}
+use Rattle.executor_model.specs.Needs.{need_of}
 use Rattle.executor_core.specs.CoreView.{workers_of}
 use Rattle.executor_laws.specs.Cancels.{is_needed}
 use Rattle.worker_pool.specs.declared.applied.Applied.{Applied}

@@ -11,16 +11,16 @@ use Rattle.task_word.specs.Views.{entry}
 use Rattle.task_word.specs.declared.views.CoreSeatView.{CoreSeatView}
 use Rattle.result_cell.specs.declared.verdict.Verdict.{Verdict}
 use Rattle.queue_code.specs.Calls.{Planned, IsPlanned, task_count}
-use Rattle.executor_core.specs.declared.types.Outcome.{Outcome}
-use Rattle.executor_core.specs.declared.types.Outcome.TheVariants as o
-use Rattle.executor_core.specs.declared.types.Answer.{Answer}
-use Rattle.executor_core.specs.declared.types.Answer.TheVariants as a
-use Rattle.executor_core.specs.declared.types.Happening.{Happening}
-use Rattle.executor_core.specs.declared.types.Line.{Line}
-use Rattle.executor_core.specs.Histories.{HistoryEntry, IsHistoryOf, had_effect, is_end as stands_in, was_cancelled}
-use Rattle.executor_core.specs.Flows.{history_from, lines_of}
-use Rattle.executor_core.specs.State.{vacant}
-use Rattle.executor_core.specs.Tasks.{word_of_task}
+use Rattle.executor_model.specs.declared.types.Outcome.{Outcome}
+use Rattle.executor_model.specs.declared.types.Outcome.TheVariants as o
+use Rattle.executor_model.specs.declared.types.Answer.{Answer}
+use Rattle.executor_model.specs.declared.types.Answer.TheVariants as a
+use Rattle.executor_model.specs.declared.types.Happening.{Happening}
+use Rattle.executor_model.specs.declared.types.Line.{Line}
+use Rattle.executor_model.specs.Histories.{HistoryEntry, IsHistoryOf, had_effect, is_end as stands_in, was_cancelled}
+use Rattle.executor_model.specs.Flows.{history_from, lines_of}
+use Rattle.executor_model.specs.State.{vacant}
+use Rattle.executor_model.specs.Tasks.{word_of_task}
 use Rattle.executor_core.specs.CoreView.{CoreView, workers_of, Stands}
 
 -- what contracts see of a book: its core, its seat and the table of the seat, the happenings and the lines, the oldest first,

@@ -2,10 +2,10 @@ pub use Rattle.sched_time.specs.Times
 pub use Rattle.task_word.specs.Words
 pub use Rattle.task_word.specs.Views
 pub use Rattle.queue_code.specs.Calls
-pub use Rattle.executor_core.specs.Histories
-pub use Rattle.executor_core.specs.Flows
-pub use Rattle.executor_core.specs.State
-pub use Rattle.executor_core.specs.Needs
+pub use Rattle.executor_model.specs.Histories
+pub use Rattle.executor_model.specs.Flows
+pub use Rattle.executor_model.specs.State
+pub use Rattle.executor_model.specs.Needs
 pub use Rattle.executor_laws.specs.Cancels
 pub mod Shares
 pub mod Books

@@ -3,20 +3,19 @@
 ghost use Rattle.std.specs.Prelude.{◌≡◌, ◌≢◌, ◌⊎◌, ℕ, ◌+◌, ◌<◌, ◌≤◌, ◌++◌, ◌∷◌, [], Some, true, false, IsTrue, OnOk, OnErr, List, vec_len, vec_capacity};
 ghost use Rattle.queue_code.specs.Calls.{task_count};
 ghost use Rattle.executor_core.specs.CoreView.{IsCounted, room_of, workers_of};
-ghost use Rattle.executor_core.specs.declared.types.Happening.TheVariants as h;
-ghost use Rattle.executor_core.specs.declared.types.Happening.{Happening as OneHappening};
-ghost use Rattle.executor_core.specs.declared.types.Need.TheVariants as n;
-ghost use Rattle.executor_core.specs.Flows.{happening_of, answer_line, EventComes};
-ghost use Rattle.executor_core.specs.Histories.{is_call};
+ghost use Rattle.executor_model.specs.declared.types.Happening.TheVariants as h;
+ghost use Rattle.executor_model.specs.declared.types.Happening.{Happening as OneHappening};
+ghost use Rattle.executor_model.specs.declared.types.Need.TheVariants as n;
+ghost use Rattle.executor_model.specs.Flows.{happening_of, answer_line, EventComes};
+ghost use Rattle.executor_model.specs.Histories.{is_call};
 ghost use Rattle.task_word.specs.declared.views.CoreSeatView.{CoreSeatView};
 ghost use Rattle.worker_pool.specs.Applies.{OnlyMarks, TellsUpTo};
 ghost use Rattle.worker_pool.specs.own.Moves.{WasMet};
 ghost use Rattle.worker_pool.specs.own.Steps.{IsKept, past_in, Comes, need_in, HasRoom, SamePlan, OnlyOwnGrows, OnlyNoted, NotedFor, Notes, Passes, Completes, MovesOn, part_in, SweepsUpTo};
 
 use crate::moving::move_word;
-use executor_core::{
-    Answer, Core, Event, Happening, KeptHappening, Line, Message, Need, make_room,
-};
+use executor_core::{Core, make_room};
+use executor_model::{Answer, Event, Happening, KeptHappening, Line, Message, Need};
 use std::alloc::{AllocError, Allocator};
 use task_word::{CoreCancel, CoreSeat, TaskWords};
 

@@ -3,7 +3,7 @@ ghost use Rattle.std.specs.Prelude.{◌≡◌, true, None, IfSome};
 ghost use Rattle.executor_laws.specs.Cancels.{is_needed};
 ghost use Rattle.worker_pool.specs.own.Moves.{CanMove, WasMet, moves_made};
 
-use executor_core::Need;
+use executor_model::Need;
 use std::alloc::Allocator;
 use task_word::{CoreCancel, CoreSeat, Moved, TaskWords};
 

@@ -3,13 +3,13 @@ ghost use Rattle.std.specs.Prelude.{◌≡◌, ◌≢◌, ◌⊎◌, ℕ, ◌+�
 ghost use Rattle.once_cell.specs.declared.race.note.Note.{Note as CellNote};
 ghost use Rattle.result_cell.specs.declared.verdict.Verdict.{Verdict as Put};
 ghost use Rattle.result_cell.specs.Cells.{AreNotesOf, StaysKnown, known_at};
-ghost use Rattle.executor_core.specs.declared.types.Answer.{Answer as OneAnswer};
-ghost use Rattle.executor_core.specs.declared.types.Event.TheVariants as v;
+ghost use Rattle.executor_model.specs.declared.types.Answer.{Answer as OneAnswer};
+ghost use Rattle.executor_model.specs.declared.types.Event.TheVariants as v;
 ghost use Rattle.sched_time.specs.declared.timing.Ending.{Ending as Ended};
 ghost use Rattle.worker_pool.specs.Books.{ending_in, ending_of_outcome};
 ghost use Rattle.worker_pool.specs.own.Results.{HasNoteOf, TookVerdict, verdict_told};
 
-use executor_core::{Answer, Event, Outcome};
+use executor_model::{Answer, Event, Outcome};
 use heap_allocator::HeapAllocator;
 use result_cell::{Note, ResultCell, Verdict, same};
 use sched_time::Ending;

@@ -15,7 +15,7 @@ ghost use Rattle.queue_code.specs.Codes.{calls_of};
 ghost use Rattle.task_word.specs.Views.{new_core};
 
 use crate::{Applied, Book, Handle, Named, PoolError, Shared, Work};
-use executor_core::{Event, Happening, Line};
+use executor_model::{Event, Happening, Line};
 use heap_allocator::HeapAllocator;
 use plan_compile::compile;
 use plan_read::read_plan;

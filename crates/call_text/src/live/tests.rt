@@ -1,7 +1,7 @@
 //! Fronts of bytes by hand.
 use crate::call::CallLine;
 use crate::live::{LiveFront, front_line};
-use executor_core::Event;
+use executor_model::Event;
 use sched_time::{Ending, Which};
 use std::process::Abort;
 use trace_text::MOST_EVENT_BYTES;

@@ -2,18 +2,18 @@
 -- All of it is this project's rule.
 use Rattle.std.specs.Prelude.{◌≡◌, ℕ, ◌&&◌, ◌||◌, not, nat_lt, nat_le, Bool, false, List, ◌++◌, length, map, Option, Some, None, slice_index_or}
 use Rattle.std.specs.List.{filter, range_with_len}
-use Rattle.executor_core.specs.declared.types.Happening.{Happening}
-use Rattle.executor_core.specs.declared.types.Line.{Line}
-use Rattle.executor_core.specs.declared.types.Answer.{Answer}
-use Rattle.executor_core.specs.declared.types.Outcome.{Outcome}
-use Rattle.executor_core.specs.declared.types.Outcome.TheVariants as o
-use Rattle.executor_core.specs.declared.task.Task.{Task}
+use Rattle.executor_model.specs.declared.types.Happening.{Happening}
+use Rattle.executor_model.specs.declared.types.Line.{Line}
+use Rattle.executor_model.specs.declared.types.Answer.{Answer}
+use Rattle.executor_model.specs.declared.types.Outcome.{Outcome}
+use Rattle.executor_model.specs.declared.types.Outcome.TheVariants as o
+use Rattle.executor_model.specs.declared.task.Task.{Task}
 use Rattle.delay_queue.specs.declared.entry.Entry.{Entry}
 use Rattle.delay_queue.specs.Queues.{comes_before}
-use Rattle.executor_core.specs.Answers.{bare, is_swept, swept}
-use Rattle.executor_core.specs.Histories.{is_ended}
-use Rattle.executor_core.specs.State.{view_of_state, vacant, end_task, next, reply_of}
-use Rattle.executor_core.specs.Flows.{end_line}
+use Rattle.executor_model.specs.Answers.{bare, is_swept, swept}
+use Rattle.executor_model.specs.Histories.{is_ended}
+use Rattle.executor_model.specs.State.{view_of_state, vacant, end_task, next, reply_of}
+use Rattle.executor_model.specs.Flows.{end_line}
 use Rattle.executor_core.specs.CoreView.{CoreView, workers_of, state_of}
 
 -- the core took the step of one happening, and this is its answer, which ends no task

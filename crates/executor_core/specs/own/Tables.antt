@@ -1,20 +1,20 @@
 -- How a core keeps its tasks: in two tables, with numbers beside them. No contract of a public call cites it but through
 -- the view or the invariant of `Core`. All of it is this project's rule.
-use Rattle.std.specs.Prelude.{◌≡◌, ℕ, ◌+◌, ◌^◌, ◌<◌, ◌≤◌, ◌&&◌, ◌||◌, Bool, true, false, not, List, [], ◌∷◌, length}
-use Rattle.sched_time.specs.declared.timing.Timing.{Timing}
+use Rattle.std.specs.Prelude.{◌≡◌, ℕ, ◌+◌, ◌^◌, ◌<◌, ◌≤◌, Bool, true, false, not, List, [], ◌∷◌, length}
 use Rattle.sched_time.specs.declared.timing.Timing.TheVariants as t
 use Rattle.task_word.specs.Words.{Parts}
 use Rattle.task_word.specs.declared.phases.Phase.{Phase as WordPhase}
 use Rattle.task_word.specs.declared.phases.Phase.TheVariants as w
 use Rattle.queue_code.specs.Calls.{how_many}
-use Rattle.executor_core.specs.declared.task.Stage.{Stage}
-use Rattle.executor_core.specs.declared.task.Stage.TheVariants as ph
-use Rattle.executor_core.specs.declared.task.Task.{Task}
-use Rattle.executor_core.specs.declared.types.Outcome.{Outcome}
-use Rattle.executor_core.specs.declared.types.Outcome.TheVariants as o
+use Rattle.executor_model.specs.declared.task.Stage.{Stage}
+use Rattle.executor_model.specs.declared.task.Stage.TheVariants as ph
+use Rattle.executor_model.specs.declared.task.Task.{Task}
+use Rattle.executor_model.specs.declared.types.Outcome.{Outcome}
+use Rattle.executor_model.specs.declared.types.Outcome.TheVariants as o
 use Rattle.executor_core.specs.declared.tasks.Detail.{Detail}
 use Rattle.executor_core.specs.declared.tallies.Tallies.{Tallies}
-use Rattle.executor_core.specs.Tasks.{uncancelled_in}
+use Rattle.executor_model.specs.Tasks.{uncancelled_in}
+use Rattle.executor_model.specs.own.Phases.{is_running_phase, waits_again}
 
 -- the phase of a task whose word has this one, and whose run was maybe dropped
 abbrev pub phase_in : WordPhase → Bool → Stage
@@ -35,37 +35,9 @@ tasks_in_tables [] details = []
 tasks_in_tables (word ∷ words) [] = []
 tasks_in_tables (word ∷ words) (detail ∷ details) = task_of word detail ∷ tasks_in_tables words details
 
--- a run is under way
-abbrev pub is_running_phase : Stage → Bool
-is_running_phase ph.Running = true
-is_running_phase _ = false
-
 -- how many tasks have a run under way
 abbrev pub running_in : List Task → ℕ
 running_in tasks = how_many (λ t. is_running_phase t.phase) tasks
-
--- a task in this phase waits for a run, or did when it was cancelled
-abbrev pub is_waiting_phase : Stage → Bool
-is_waiting_phase ph.Waiting = true
-is_waiting_phase _ = false
-
--- a task of this timing has more runs than one
-abbrev pub is_periodic : Timing → Bool
-is_periodic t.Once = false
-is_periodic (t.Rate period) = true
-is_periodic (t.Fixed delay) = true
-
--- a periodic task waits for a run
-abbrev pub waits_again : Task → Bool
-waits_again task = is_waiting_phase task.phase && (not task.cancelled && is_periodic task.timing)
-
--- a task waits for a run
-abbrev pub waits_with : Task → Bool
-waits_with task = is_waiting_phase task.phase && not task.cancelled
-
--- a task once it is cancelled: one that waited is kept, where a cancelled task does not leave the queue
-abbrev pub cancelled_task : Bool → Task → Task
-cancelled_task removes task = record task { cancelled = true; kept = task.kept || (is_waiting_phase task.phase && not removes) }
 
 -- how many periodic tasks wait for a run
 abbrev pub periodic_in : List Task → ℕ

@@ -1,14 +1,14 @@
 //! The calls of the plan, as a core makes them.
 ghost use Rattle.std.specs.Prelude.{◌≡◌, ℕ, ◌+◌, ◌<◌, ◌≤◌, [], ◌∷◌, length, Some, slice_get, vec_len, vec_capacity};
-ghost use Rattle.executor_core.specs.declared.types.Happening.TheVariants as happening;
+ghost use Rattle.executor_model.specs.declared.types.Happening.TheVariants as happening;
 ghost use Rattle.queue_code.specs.declared.call.CodeCall.TheVariants as call;
 ghost use Rattle.queue_code.specs.Calls.{IsOrderly, Planned};
-ghost use Rattle.executor_core.specs.Answers.{kind_of};
-ghost use Rattle.executor_core.specs.Tasks.{uncancelled_in};
+ghost use Rattle.executor_model.specs.Answers.{kind_of};
+ghost use Rattle.executor_model.specs.Tasks.{uncancelled_in};
 
 use super::Core;
-use crate::types::{Answer, Kind, Line, Message, Refusal};
 use delay_queue::Entry;
+use executor_model::{Answer, Kind, Line, Message, Refusal};
 use queue_code::CodeCall;
 use sched_time::Timing;
 use std::alloc::Allocator;

@@ -1,19 +1,18 @@
 //! Cancels, of the plan and from outside.
 ghost use Rattle.std.specs.Prelude.{◌≡◌, ◌≢◌, ◌+◌, ◌-◌, ◌<◌, ◌≤◌, [], ◌∷◌, true, length, slice_set, slice_index_or, vec_len, vec_capacity};
-ghost use Rattle.executor_core.specs.declared.types.Happening.TheVariants as happening;
-ghost use Rattle.executor_core.specs.declared.types.Answer.TheVariants as answer;
-ghost use Rattle.executor_core.specs.declared.types.CancelEffect.TheVariants as effect;
-ghost use Rattle.executor_core.specs.declared.task.Stage.TheVariants as ph;
+ghost use Rattle.executor_model.specs.declared.types.Happening.TheVariants as happening;
+ghost use Rattle.executor_model.specs.declared.types.Answer.TheVariants as answer;
+ghost use Rattle.executor_model.specs.declared.types.CancelEffect.TheVariants as effect;
+ghost use Rattle.executor_model.specs.declared.task.Stage.TheVariants as ph;
 ghost use Rattle.queue_code.specs.Calls.{Terms, terms_of};
-ghost use Rattle.executor_core.specs.State.{vacant, seen_task, reply_of};
-ghost use Rattle.executor_core.specs.Answers.{effect_on};
-ghost use Rattle.executor_core.specs.Tasks.{uncancelled_in};
-ghost use Rattle.executor_core.specs.own.Tables.{cancelled_task};
+ghost use Rattle.executor_model.specs.State.{vacant, seen_task, reply_of};
+ghost use Rattle.executor_model.specs.Answers.{effect_on};
+ghost use Rattle.executor_model.specs.Tasks.{uncancelled_in};
+ghost use Rattle.executor_model.specs.own.Phases.{cancelled_task};
 
 use super::Core;
-use crate::task::{Stage, Task};
-use crate::types::{Answer, CancelEffect, EventError, Line, Message};
 use delay_queue::Entry;
+use executor_model::{Answer, CancelEffect, EventError, Line, Message, Stage, Task};
 use std::alloc::Allocator;
 
 impl<A: Allocator> Core<A> {

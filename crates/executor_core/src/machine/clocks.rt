@@ -1,15 +1,15 @@
 //! Clocks: whether one is accepted, and what it does.
 ghost use Rattle.std.specs.Prelude.{◌≡◌, ◌+◌, ◌≤◌, ◌↔◌, [], ◌∷◌, true, length, None, IfSome, vec_len, vec_capacity};
-ghost use Rattle.executor_core.specs.declared.types.Happening.TheVariants as happening;
-ghost use Rattle.executor_core.specs.declared.types.Answer.TheVariants as answer;
-ghost use Rattle.executor_core.specs.Answers.{is_accepted, bare};
+ghost use Rattle.executor_model.specs.declared.types.Happening.TheVariants as happening;
+ghost use Rattle.executor_model.specs.declared.types.Answer.TheVariants as answer;
+ghost use Rattle.executor_model.specs.Answers.{is_accepted, bare};
 ghost use Rattle.sched_time.specs.Times.{longest};
 ghost use Rattle.queue_code.specs.Calls.{IsOrderly};
-ghost use Rattle.executor_core.specs.Histories.{AreMade};
-ghost use Rattle.executor_core.specs.State.{reply_of};
+ghost use Rattle.executor_model.specs.Histories.{AreMade};
+ghost use Rattle.executor_model.specs.State.{reply_of};
 
 use super::Core;
-use crate::types::{Answer, EventError, Line, Message};
+use executor_model::{Answer, EventError, Line, Message};
 use sched_time::LONGEST;
 use std::alloc::Allocator;
 

@@ -2,25 +2,25 @@
 ghost use Rattle.std.specs.Prelude.{◌≡◌, ℕ, ◌+◌, ◌≤◌, ◌↔◌, [], ◌∷◌, Some, true, false, IsTrue, vec_len, vec_capacity};
 ghost use Rattle.sched_time.specs.declared.timing.Ending.{Ending as EndingOf};
 ghost use Rattle.executor_core.specs.declared.foreseen.RunEnd.{RunEnd as RunEndOf};
-ghost use Rattle.executor_core.specs.Flows.{happening_of, CallComes, EventComes};
-ghost use Rattle.executor_core.specs.Histories.{MayFrom, is_call};
-ghost use Rattle.executor_core.specs.Needs.{need_of};
+ghost use Rattle.executor_model.specs.Flows.{happening_of, CallComes, EventComes};
+ghost use Rattle.executor_model.specs.Histories.{MayFrom, is_call};
+ghost use Rattle.executor_model.specs.Needs.{need_of};
 ghost use Rattle.executor_core.specs.Foresight.{foresight};
-ghost use Rattle.executor_core.specs.State.{reply_of};
-ghost use Rattle.executor_core.specs.declared.types.Happening.TheVariants as h;
-ghost use Rattle.executor_core.specs.declared.types.Answer.TheVariants as answer;
-ghost use Rattle.executor_core.specs.declared.types.CancelEffect.TheVariants as effect;
+ghost use Rattle.executor_model.specs.State.{reply_of};
+ghost use Rattle.executor_model.specs.declared.types.Happening.TheVariants as h;
+ghost use Rattle.executor_model.specs.declared.types.Answer.TheVariants as answer;
+ghost use Rattle.executor_model.specs.declared.types.CancelEffect.TheVariants as effect;
 
 use super::Core;
 use super::needs::need_of_end;
 use crate::foreseen::Foreseen;
-use crate::types::{Event, Happening, Line, Need};
+use executor_model::{Event, Happening, Line, Need};
 use sched_time::LONGEST;
 use std::alloc::Allocator;
 
 impl<A: Allocator> Core<A> {
     ghost use Rattle.executor_core.specs.CoreView.{Steps, ContinuesAny, Leaves, GivesRoom, IsCounted, comes_before_event, room_of, workers_of, state_of};
-    ghost use Rattle.executor_core.specs.Needs.{RunsBelowTaken};
+    ghost use Rattle.executor_core.specs.CoreView.{RunsBelowTaken};
 
     /// Whether a happening may come: a call where one is left, a clock unless it is accepted and reaches a call that is not
     /// made yet, and each other one.

@@ -1,20 +1,20 @@
 //! What a step would move of the words, before it is taken, and whether a task is due.
 ghost use Rattle.std.specs.Prelude.{◌≡◌, ℕ, Some, slice_get, ◌<◌, ◌≤◌, ◌↔◌, IsTrue, IfSome, IfNone, length, None, slice_index_or};
-ghost use Rattle.executor_core.specs.declared.types.Happening.TheVariants as happening;
+ghost use Rattle.executor_model.specs.declared.types.Happening.TheVariants as happening;
 ghost use Rattle.sched_time.specs.Times.{longest};
 ghost use Rattle.delay_queue.specs.Queues.{IsLeast, NoneIsDue};
-ghost use Rattle.executor_core.specs.Flows.{ReachesNext, reached};
-ghost use Rattle.executor_core.specs.Histories.{AreMade, is_end};
-ghost use Rattle.executor_core.specs.State.{reply_of, vacant, view_of_state};
-ghost use Rattle.executor_core.specs.Needs.{need_of, need_of_finish, IsRipe};
+ghost use Rattle.executor_model.specs.Flows.{ReachesNext, reached};
+ghost use Rattle.executor_model.specs.Histories.{AreMade, is_end};
+ghost use Rattle.executor_model.specs.State.{reply_of, vacant, view_of_state};
+ghost use Rattle.executor_model.specs.Needs.{need_of, need_of_finish, IsRipe};
 ghost use Rattle.executor_core.specs.own.Ends.{need_of_end};
 
 use super::Core;
 use super::cancels::effect_on;
 use super::sweeps::setting_sweeps;
 use crate::foreseen::RunEnd;
-use crate::types::{CancelEffect, Need, Outcome};
 use delay_queue::{DelayQueue, Entry};
+use executor_model::{CancelEffect, Need, Outcome};
 use queue_code::CodeCall;
 use sched_time::Ending;
 use std::alloc::Allocator;

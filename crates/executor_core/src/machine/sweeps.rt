@@ -1,18 +1,17 @@
 //! Policies, the shutdowns, and the sweep that they make.
 ghost use Rattle.std.specs.Prelude.{◌≡◌, ◌+◌, ◌<◌, ◌≤◌, ℕ, [], ◌∷◌, ◌++◌, length, Some, slice_get, slice_set, slice_index_or, true, false, vec_len, vec_capacity};
-ghost use Rattle.executor_core.specs.declared.types.Happening.TheVariants as happening;
+ghost use Rattle.executor_model.specs.declared.types.Happening.TheVariants as happening;
 ghost use Rattle.queue_code.specs.declared.call.CodeCall.TheVariants as call;
 ghost use Rattle.queue_code.specs.Calls.{task_count};
-ghost use Rattle.executor_core.specs.Answers.{is_swept, is_ended_by, setting_sweeps, swept};
-ghost use Rattle.executor_core.specs.Histories.{is_end};
-ghost use Rattle.executor_core.specs.Flows.{end_line};
-ghost use Rattle.executor_core.specs.State.{vacant, view_of_state};
-ghost use Rattle.executor_core.specs.Tasks.{uncancelled_in};
-ghost use Rattle.executor_core.specs.own.Tables.{waits_with};
+ghost use Rattle.executor_model.specs.Answers.{is_swept, is_ended_by, setting_sweeps, swept};
+ghost use Rattle.executor_model.specs.Histories.{is_end};
+ghost use Rattle.executor_model.specs.Flows.{end_line};
+ghost use Rattle.executor_model.specs.State.{vacant, view_of_state};
+ghost use Rattle.executor_model.specs.Tasks.{uncancelled_in};
+ghost use Rattle.executor_model.specs.own.Phases.{waits_with};
 
 use super::Core;
-use crate::task::{Stage, Task};
-use crate::types::{Answer, Line, Message};
+use executor_model::{Answer, Line, Message, Stage, Task};
 use sched_time::{Policies, Timing, Which};
 use std::alloc::Allocator;
 

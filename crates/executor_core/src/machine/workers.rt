@@ -1,34 +1,34 @@
 //! Starts and finishes: what a core answers to its workers.
 ghost use Rattle.std.specs.Prelude.{◌≡◌, ◌≢◌, ℕ, ◌+◌, ◌^◌, ◌<◌, ◌≤◌, [], ◌∷◌, false, length, None, Some, true, slice_set, slice_index_or, vec_len, vec_capacity};
-ghost use Rattle.executor_core.specs.declared.task.Stage.TheVariants as ph;
-ghost use Rattle.executor_core.specs.declared.types.Outcome.TheVariants as o;
-ghost use Rattle.executor_core.specs.declared.types.Happening.TheVariants as happening;
+ghost use Rattle.executor_model.specs.declared.task.Stage.TheVariants as ph;
+ghost use Rattle.executor_model.specs.declared.types.Outcome.TheVariants as o;
+ghost use Rattle.executor_model.specs.declared.types.Happening.TheVariants as happening;
 ghost use Rattle.sched_time.specs.Dues.{next_due};
 ghost use Rattle.sched_time.specs.Times.{longest};
-ghost use Rattle.executor_core.specs.Needs.{need_of};
+ghost use Rattle.executor_model.specs.Needs.{need_of};
 ghost use Rattle.executor_core.specs.Foresight.{end_in};
 ghost use Rattle.executor_core.specs.own.Ends.{need_of_end};
-ghost use Rattle.executor_core.specs.State.{due_past, reply_of, vacant};
+ghost use Rattle.executor_model.specs.State.{due_past, reply_of, vacant};
 ghost use Rattle.executor_core.specs.declared.foreseen.RunEnd.{RunEnd as RunEndOf};
-ghost use Rattle.executor_core.specs.declared.types.Answer.TheVariants as answer;
+ghost use Rattle.executor_model.specs.declared.types.Answer.TheVariants as answer;
 ghost use Rattle.executor_core.specs.own.OwnSteps.{finished_task, queued_again, is_met};
-ghost use Rattle.executor_core.specs.own.Tables.{is_again, is_periodic};
+ghost use Rattle.executor_core.specs.own.Tables.{is_again};
+ghost use Rattle.executor_model.specs.own.Phases.{is_periodic};
 ghost use Rattle.sched_time.specs.declared.timing.Timing.{Timing};
-ghost use Rattle.executor_core.specs.Answers.{outcome_in, stops_periodic};
+ghost use Rattle.executor_model.specs.Answers.{outcome_in, stops_periodic};
 
 use super::Core;
 use crate::foreseen::RunEnd;
-use crate::task::Task;
 use crate::tasks::Tasks;
-use crate::types::{Answer, EventError, Line, Message, Outcome};
 use delay_queue::{DelayQueue, Entry};
+use executor_model::{Answer, EventError, Line, Message, Outcome, Task};
 use sched_time::{Ending, next_due};
 use std::alloc::Allocator;
 
 impl<A: Allocator> Core<A> {
     ghost use Rattle.executor_core.specs.CoreView.{Steps, ContinuesAny, Leaves, room_of, workers_of, state_of};
     ghost use Rattle.executor_core.specs.own.OwnSteps.{Takes, LeavesMet};
-    ghost use Rattle.executor_core.specs.Needs.{RunsBelowTaken};
+    ghost use Rattle.executor_core.specs.CoreView.{RunsBelowTaken};
 
     /// A worker asks for work: it gets the first task that is due, or none. The line is added, for which `out` has room.
     ///

@@ -2,8 +2,8 @@
 -- All of it is this project's rule.
 use Rattle.std.specs.Prelude.{ℕ, List}
 use Rattle.queue_code.specs.Calls.{Planned, IsOrderlyFrom}
-use Rattle.executor_core.specs.Histories.{HistoryEntry}
-use Rattle.executor_core.specs.Within.{IsAnsweredByTable}
+use Rattle.executor_model.specs.Histories.{HistoryEntry}
+use Rattle.executor_model.specs.Within.{IsAnsweredByTable}
 
 -- the calls are in order after some others
 abbrev pub IsOrderlyPart : List Planned → Type 0

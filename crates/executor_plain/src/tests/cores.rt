@@ -10,7 +10,8 @@ mod sweeps;
 mod usage;
 mod words;
 
-use executor_core::{Core, CoreError, Event, Happening, Line};
+use executor_core::{Core, CoreError};
+use executor_model::{Event, Happening, Line};
 use queue_code::{Code, Instr};
 use sched_time::{Ending, Span, Timing, Unit, span};
 use std::alloc::{AllocGlobal, Allocator, Global};

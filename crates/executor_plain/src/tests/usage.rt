@@ -1,6 +1,6 @@
 //! The examples of the comments, as they stand there: `tools/docs` compares them.
 use crate::trace;
-use executor_core::Event;
+use executor_model::Event;
 use std::test::Fail;
 
 #[test]

@@ -1,6 +1,6 @@
 //! The examples of the comments, as they stand there: `tools/docs` compares them.
 use crate::{LineCopy, put_lines};
-use executor_core::{Answer, Line, Message};
+use executor_model::{Answer, Line, Message};
 use std::process::Abort;
 
 #[test]

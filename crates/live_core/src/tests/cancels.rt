@@ -5,7 +5,7 @@ use super::steps::{
     DONE, IDLE, NONE, SHOWN, Step, Told, accepted, asked, begun, cancelled, ended, outside,
 };
 use crate::CallError;
-use executor_core::{CancelEffect, EventError, Outcome};
+use executor_model::{CancelEffect, EventError, Outcome};
 use sched_time::{Ending, Which};
 use std::process::Abort;
 use std::test::Fail;

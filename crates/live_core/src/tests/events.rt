@@ -3,7 +3,7 @@
 use super::play;
 use super::steps::{DONE, IDLE, NONE, SHOWN, Step, Told, accepted, begun, ended};
 use crate::StartError;
-use executor_core::{EventError, Outcome};
+use executor_model::{EventError, Outcome};
 use sched_time::Ending;
 use std::process::Abort;
 use std::test::Fail;

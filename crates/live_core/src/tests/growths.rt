@@ -3,7 +3,7 @@
 use super::steps::{DONE, NONE, Step, Told, do_step, look};
 use super::{Row, play_over};
 use crate::{CallError, MakeError, ScheduledExecutor};
-use executor_core::{Answer, Line};
+use executor_model::{Answer, Line};
 use refusing_allocator::Refusing;
 use std::alloc::{AllocGlobal, Allocator, Global};
 use std::process::Abort;

@@ -3,7 +3,7 @@
 use super::steps::{DONE, Step, Told, accepted};
 use super::{Row, play_over};
 use crate::{LinesError, ScheduledExecutor};
-use executor_core::{Answer, Line, Message};
+use executor_model::{Answer, Line, Message};
 use refusing_allocator::Refusing;
 use std::alloc::Allocator;
 use std::process::Abort;

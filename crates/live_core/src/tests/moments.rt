@@ -5,7 +5,7 @@ use super::steps::{
     DONE, NONE, SHOWN, Step, Told, accepted, asked, begun, ended, outside, policies,
 };
 use crate::CallError;
-use executor_core::{CancelEffect, Outcome};
+use executor_model::{CancelEffect, Outcome};
 use sched_time::{Ending, Which};
 use std::process::Abort;
 use std::test::Fail;

@@ -4,7 +4,7 @@ use super::play;
 use super::steps::{
     DONE, IDLE, NONE, SHOWN, Step, Told, accepted, asked, begun, ended, outside, policies,
 };
-use executor_core::{CancelEffect, Outcome};
+use executor_model::{CancelEffect, Outcome};
 use sched_time::{Ending, Which};
 use std::process::Abort;
 use std::test::Fail;

@@ -5,7 +5,7 @@ use super::steps::{
     DONE, IDLE, SHOWN, Step, Told, accepted, begun, cancelled, do_step, ended, outside,
 };
 use crate::ScheduledExecutor;
-use executor_core::{CancelEffect, Outcome};
+use executor_model::{CancelEffect, Outcome};
 use sched_time::{Ending, Which};
 use std::alloc::Allocator;
 use std::process::Abort;

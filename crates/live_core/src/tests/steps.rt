@@ -1,7 +1,7 @@
 //! What is done with an executor, and what is told then.
 
 use crate::{Asked, Begun, CallError, Ended, ScheduledExecutor, StartError, Submitted, TaskRef};
-use executor_core::{CancelEffect, EventError, Outcome};
+use executor_model::{CancelEffect, EventError, Outcome};
 use sched_time::{Ending, Policies, Which};
 use std::alloc::Allocator;
 

@@ -3,7 +3,7 @@
 use super::play;
 use super::steps::{IDLE, NONE, SHOWN, Step, Told, accepted, begun, ended, outside, rejected};
 use crate::CallError;
-use executor_core::{CancelEffect, Outcome};
+use executor_model::{CancelEffect, Outcome};
 use sched_time::Ending;
 use std::process::Abort;
 use std::test::Fail;

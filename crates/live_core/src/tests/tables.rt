@@ -1,5 +1,5 @@
 //! The example of the page of `task_table`, as it stands there: `tools/docs` compares them.
-use executor_core::EventError;
+use executor_model::EventError;
 use std::test::Fail;
 use task_table::TaskTable;
 

@@ -1,7 +1,7 @@
 //! The examples of the comments, as they stand there: `tools/docs` compares them.
 
 use crate::{CallError, ScheduledExecutor, Submitted};
-use executor_core::{CancelEffect, Outcome};
+use executor_model::{CancelEffect, Outcome};
 use sched_time::Ending;
 use std::alloc::Global;
 use std::process::Abort;

@@ -1,9 +1,9 @@
 -- Steps: where an executor stands once some lines were taken, and what one line more makes of it.
 -- All of it is this project's rule.
 use Rattle.std.specs.Prelude.{◌≡◌, ℕ, ◌+◌, List, [], ◌∷◌, ◌++◌, length}
-use Rattle.executor_core.specs.declared.Line.{Line}
-use Rattle.executor_core.specs.Answers.{Reply}
-use Rattle.executor_core.specs.Flows.{lines_at, lines_of}
+use Rattle.executor_model.specs.declared.Line.{Line}
+use Rattle.executor_model.specs.Answers.{Reply}
+use Rattle.executor_model.specs.Flows.{lines_at, lines_of}
 use Rattle.task_table.specs.Tables.{workers_of}
 use Rattle.live_core.specs.declared.error.CallError.{CallError}
 use Rattle.live_core.specs.declared.error.CallError.TheVariants as ce

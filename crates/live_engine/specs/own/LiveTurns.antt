@@ -2,7 +2,7 @@
 -- All of it is this project's rule.
 use Rattle.std.specs.Prelude.{◌≡◌, ℕ, ◌+◌, ◌-◌, ◌*◌, ◌<◌, ◌≤◌, List, [], ◌++◌, ◌⊎◌, Option, Result, Ok, Err, length, take}
 use Rattle.std.specs.Io.KnownBytes.{Appends, Consumes, prepend_known}
-use Rattle.executor_core.specs.Counts.{IsWorkerCount}
+use Rattle.executor_model.specs.Counts.{IsWorkerCount}
 use Rattle.trace_text.specs.Reading.{IsPart, most_event_bytes}
 use Rattle.call_text.specs.declared.live.LiveFront.TheVariants as front
 use Rattle.call_text.specs.Reading.{IsLiveFront}

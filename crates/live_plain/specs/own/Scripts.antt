@@ -2,13 +2,13 @@
 -- All of it is this project's rule.
 use Rattle.std.specs.Prelude.{◌≡◌, ℕ, ◌+◌, ◌-◌, ◌^◌, ◌<◌, ◌≤◌, min, max, nat_lt, if◌then◌else◌, List, [], ◌∷◌, ◌++◌, map, reverse, length, None}
 use Rattle.queue_code.specs.Calls.{Planned, IsOrderly, count_after, most_calls_of_code, task_count}
-use Rattle.executor_core.specs.declared.types.Event.{Event}
-use Rattle.executor_core.specs.declared.types.Event.TheVariants as v
-use Rattle.executor_core.specs.declared.types.Happening.{Happening}
-use Rattle.executor_core.specs.declared.types.Happening.TheVariants as h
-use Rattle.executor_core.specs.Answers.{is_accepted, moment_after}
-use Rattle.executor_core.specs.Histories.{IsHistoryOf, happenings, made, now_of}
-use Rattle.executor_core.specs.Flows.{happening_of}
+use Rattle.executor_model.specs.declared.types.Event.{Event}
+use Rattle.executor_model.specs.declared.types.Event.TheVariants as v
+use Rattle.executor_model.specs.declared.types.Happening.{Happening}
+use Rattle.executor_model.specs.declared.types.Happening.TheVariants as h
+use Rattle.executor_model.specs.Answers.{is_accepted, moment_after}
+use Rattle.executor_model.specs.Histories.{IsHistoryOf, happenings, made, now_of}
+use Rattle.executor_model.specs.Flows.{happening_of}
 use Rattle.executor_laws.specs.Additions.{AllLookBelow}
 use Rattle.call_text.specs.declared.call.CallLine.{CallLine}
 use Rattle.call_text.specs.declared.call.CallLine.TheVariants as call

@@ -4,7 +4,7 @@ ghost use Rattle.std.specs.Prelude.{◌<◌};
 
 use super::{agree, call, event};
 use call_text::CallLine;
-use executor_core::Event;
+use executor_model::Event;
 use live_engine::LiveLine;
 use sched_time::{Ending, Which};
 use std::alloc::Global;

@@ -2,7 +2,7 @@
 
 use super::replies::{ask_answer, finish_answer, shutdown_answer, start_answer, submit_answer};
 use call_text::CallLine;
-use executor_core::{Answer, Event, Kind, Line};
+use executor_model::{Answer, Event, Kind, Line};
 use live_core::{CallError, ScheduledExecutor, StartError};
 use live_engine::LiveLine;
 use std::alloc::{Allocator, Global};

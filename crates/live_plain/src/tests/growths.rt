@@ -3,7 +3,7 @@
 use super::{call, event};
 use crate::trace_of_lines;
 use call_text::CallLine;
-use executor_core::Event;
+use executor_model::Event;
 use refusing_allocator::Refusing;
 use std::process::Abort;
 use std::test::Fail;

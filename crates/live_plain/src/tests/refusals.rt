@@ -3,7 +3,7 @@
 use super::{call, event};
 use crate::trace_of_lines;
 use call_text::CallLine;
-use executor_core::Event;
+use executor_model::Event;
 use live_engine::LiveLine;
 use sched_time::LONGEST;
 use std::alloc::Global;

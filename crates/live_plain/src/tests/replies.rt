@@ -1,6 +1,6 @@
 //! What the executor answers, as the lines of a trace have it.
 
-use executor_core::{Answer, Kind, Refusal};
+use executor_model::{Answer, Kind, Refusal};
 use live_core::{Asked, Begun, Ended, Submitted};
 
 /// A task's number, as a line spells it. No test has one of 2^32 or more.

@@ -2,7 +2,7 @@
 
 use super::agree;
 use call_text::CallLine;
-use executor_core::Event;
+use executor_model::Event;
 use live_engine::LiveLine;
 use sched_time::{Ending, Which};
 use std::alloc::Global;

@@ -2,7 +2,7 @@
 
 use crate::trace_of_lines;
 use call_text::CallLine;
-use executor_core::{Answer, CancelEffect, Event, EventError, Kind, Line, Message};
+use executor_model::{Answer, CancelEffect, Event, EventError, Kind, Line, Message};
 use live_engine::LiveLine;
 use std::process::Abort;
 use std::test::Fail;

@@ -1,9 +1,7 @@
 //! Migrations: what is told of a text by what it migrates to, and what stands in a migrated text.
 use super::*;
 use crate::compile;
-use executor_core::{Core, Event, Line};
 use queue_code::listing;
-use sched_time::Ending;
 
 /// The fault of migrating a text of version 2.
 const IS_MIGRATED: PlanFault = PlanFault {
@@ -18,32 +16,16 @@ fn listing_of(alloc: Global, plan: &Plan<Global>) -> Result<String, Fail> {
     Ok(listing(alloc, &code)?)
 }
 
-/// What a run of a plan is answered: its calls, which a clock at the last moment reaches, and a worker's first start and finish.
-fn lines_of(alloc: Global, plan: &Plan<Global>) -> Result<Vec<Line>, Fail> {
-    let mut core = Core::new(alloc, compile(alloc, plan)?, 1, 3)?;
-    let mut lines = Vec::new(alloc);
-    for event in [
-        Event::Clock(1 << 62),
-        Event::Start(0),
-        Event::Finish(0, Ending::Value(7)),
-    ] {
-        core.event(event, &mut lines)?;
-    }
-    Ok(lines)
-}
-
-/// Whether a text writes a plan of the same code, whose run is answered the same, and is of version 2.
+/// Whether a text writes a plan of the same code, whose run is therefore answered the same, and is of version 2.
 fn is_second_text_of(alloc: Global, plan: &Plan<Global>, text: &str) -> Result<bool, Fail> {
     if migrated(alloc, text.as_bytes()).err() != Some(IS_MIGRATED) {
         return Ok(false);
     }
     let second = read(alloc, text.as_bytes())?;
-    let listings = (listing_of(alloc, plan)?, listing_of(alloc, &second)?);
-    let runs = (lines_of(alloc, plan)?, lines_of(alloc, &second)?);
-    Ok(listings.0.as_str() == listings.1.as_str() && runs.0.as_slice() == runs.1.as_slice())
+    Ok(listing_of(alloc, plan)?.as_str() == listing_of(alloc, &second)?.as_str())
 }
 
-/// What is told of a plan by what its text migrates to: "plan" where that is a text of version 2 with the same code and run, "plan 2"
+/// What is told of a plan by what its text migrates to: "plan" where that is a text of version 2 with the same code, "plan 2"
 /// where the text is of version 2 itself, and behind "plan" the fault where there is another.
 pub fn told_of_plan(
     alloc: Global,

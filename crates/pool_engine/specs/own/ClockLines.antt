@@ -2,8 +2,8 @@
 -- All of it is this project's rule.
 use Rattle.std.specs.Prelude.{◌≡◌, ◌≢◌, ℕ, ◌≤◌, List, ◌++◌, Option, Result, Err, take, length}
 use Rattle.std.specs.Io.KnownBytes.{Consumes, prepend_known}
-use Rattle.executor_core.specs.declared.Event.{Event}
-use Rattle.executor_core.specs.declared.Event.TheVariants as v
+use Rattle.executor_model.specs.declared.Event.{Event}
+use Rattle.executor_model.specs.declared.Event.TheVariants as v
 use Rattle.trace_text.specs.Reading.{IsPart}
 use Rattle.trace_text.specs.Spelling.{FitsEvent, event_line}
 use Rattle.sched_engine.specs.Inputs.{AreEvents, input_of}

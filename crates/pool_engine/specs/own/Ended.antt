@@ -3,8 +3,8 @@
 use Rattle.std.specs.Prelude.{◌≡◌, ◌≢◌, ℕ, List, ◌++◌, Option, Result, Err, Bool, true, false, take}
 use Rattle.std.specs.Io.KnownBytes.{Appends}
 use Rattle.executor_core.specs.CoreView.{state_of}
-use Rattle.executor_core.specs.Needs.{IsRipe}
-use Rattle.executor_core.specs.State.{view_of_state}
+use Rattle.executor_model.specs.Needs.{IsRipe}
+use Rattle.executor_model.specs.State.{view_of_state}
 use Rattle.worker_pool.specs.Books.{BookView}
 use Rattle.byte_ends.specs.Ends.{AllGood, LastBad}
 use Rattle.pool_engine.specs.declared.stops.LastError.{LastError}

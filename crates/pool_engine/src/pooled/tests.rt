@@ -6,7 +6,7 @@ ghost use Rattle.task_word.specs.Views.{new_core};
 
 use super::{Asked, write_full, write_rested};
 use byte_ends::Writing;
-use executor_core::Event;
+use executor_model::Event;
 use queue_code::{Code, Instr};
 use sched_engine::{Draft, Report, RunError};
 use sched_time::{Ending, Timing};

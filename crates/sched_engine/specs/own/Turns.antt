@@ -2,12 +2,12 @@
 -- All of it is this project's rule.
 use Rattle.std.specs.Prelude.{◌≡◌, ℕ, ◌+◌, ◌-◌, ◌*◌, ◌^◌, ◌<◌, ◌≤◌, List, [], ◌++◌, Option, Result, Ok, Err, drop, length, take}
 use Rattle.std.specs.Io.KnownBytes.{Appends, Consumes, prepend_known}
-use Rattle.executor_core.specs.declared.Event.{Event}
-use Rattle.executor_core.specs.declared.Happening.{Happening}
-use Rattle.executor_core.specs.declared.Line.{Line}
+use Rattle.executor_model.specs.declared.Event.{Event}
+use Rattle.executor_model.specs.declared.Happening.{Happening}
+use Rattle.executor_model.specs.declared.Line.{Line}
 use Rattle.queue_code.specs.Calls.{Planned, IsOrderly, IsPlanned}
-use Rattle.executor_core.specs.Histories.{HistoryEntry, IsHistoryOf}
-use Rattle.executor_core.specs.Flows.{history_of, lines_from, lines_of, part_of}
+use Rattle.executor_model.specs.Histories.{HistoryEntry, IsHistoryOf}
+use Rattle.executor_model.specs.Flows.{history_of, lines_from, lines_of, part_of}
 use Rattle.executor_core.specs.CoreView.{CoreView, room_of, state_of, workers_of, Stands, Steps, Continues}
 use Rattle.trace_text.specs.Spelling.{FitsEvent, IsLine, event_line, lines_text}
 use Rattle.trace_text.specs.declared.front.Front.TheVariants as front

@@ -1,12 +1,10 @@
 -- What stands in the two queues of a table: each task that waits in the one, and each that is kept in the other. No contract of a
 -- public call cites it but through the invariant of the table. All of it is this project's rule.
-use Rattle.std.specs.Prelude.{◌≡◌, ℕ, ◌==◌, ◌≤◌, ◌&&◌, not, Bool, true, false, if◌then◌else◌, List, length, Option, Some, None}
-use Rattle.std.specs.Option.{option_map, option_map_or}
-use Rattle.delay_queue.specs.Queues.{comes_before}
-use Rattle.slot_queue.specs.Entries.{Key}
-use Rattle.slot_queue.specs.Queues.{key_in}
-use Rattle.executor_core.specs.declared.types.Outcome.{Outcome}
-use Rattle.executor_core.specs.declared.types.Outcome.TheVariants as o
+use Rattle.std.specs.Prelude.{◌≡◌, ℕ, ◌≤◌, ◌&&◌, not, Bool, true, false, if◌then◌else◌, length, Option, Some, None}
+use Rattle.std.specs.Option.{option_map_or}
+use Rattle.executor_model.specs.declared.task.Stage.TheVariants as ph
+use Rattle.executor_model.specs.declared.types.Outcome.{Outcome}
+use Rattle.executor_model.specs.declared.types.Outcome.TheVariants as o
 use Rattle.task_table.specs.declared.seat.Seat.{Seat}
 use Rattle.task_table.specs.Seats.{task_in, slot_of, waits, is_waiting_in}
 use Rattle.task_table.specs.Tables.{TableView}
@@ -32,10 +30,6 @@ pub record Queues (m : TableView) (entries kept : ℕ → Option (ℕ × ℕ)) :
   pub waiting : (i : ℕ) → entries i ≡ queued_key (slot_of m.slots i)
   pub keeping : (i : ℕ) → kept i ≡ kept_key (slot_of m.slots i)
 
--- a queue once this stands at a slot
-abbrev pub with_key : (ℕ → Option (ℕ × ℕ)) → ℕ → Option (ℕ × ℕ) → ℕ → Option (ℕ × ℕ)
-with_key entries slot key i = if slot == i then key else entries i
-
 -- what a task whose run ended so, and which holds this due moment from then on, has in the queue
 abbrev pub key_again : Outcome → ℕ → ℕ → Option (ℕ × ℕ)
 key_again (o.Again next) due number = Some (due, number)
@@ -58,22 +52,12 @@ ends_at m i = option_map_or (is_swept m.stopped m.policies m.moment) (slot_of m.
 abbrev pub without_swept : TableView → (ℕ → Option (ℕ × ℕ)) → ℕ → Option (ℕ × ℕ)
 without_swept m entries i = if ends_at m i then None else entries i
 
--- an entry stands at a slot, and no other one comes before it
-pub record IsLeastKey (entries : ℕ → Option (ℕ × ℕ)) (slot due number : ℕ) : Type 0 where
-  pub there : entries slot ≡ Some (due, number)
-  pub least : (i later other : ℕ) → entries i ≡ Some (later, other) → comes_before later other due number ≡ false
-
--- the due moment and the number that a key of a queue stands for: the rank of an entry is the number of its task
-abbrev pub pair_of : Key → ℕ × ℕ
-pair_of key = (key.due, key.rank)
-
--- what stands in a queue, by slot
-abbrev pub keys : List (Option Key) → ℕ → Option (ℕ × ℕ)
-keys entries i = option_map pair_of (key_in entries i)
-
--- what stays true of each table with its two queues: it is well formed, the queues hold what its slots say, and have room for each slot
-pub record IsTable (m : TableView) (entries kept : List (Option Key)) : Type 0 where
+-- what stays true of each table with its two queues: it is well formed, the queues hold what its slots say, and have room for each
+-- slot; each task may have an entry at its slot, and each run that is under way may be
+pub record IsTable (admits : ℕ → ℕ → Bool) (may_run : ℕ → Bool) (m : TableView) (entries kept : ℕ → Option (ℕ × ℕ)) (queue_room kept_room : ℕ) : Type 0 where
   pub formed : IsFormed m
-  pub queues : Queues m (keys entries) (keys kept)
-  pub room : length m.slots ≤ length entries
-  pub spare : length m.slots ≤ length kept
+  pub queues : Queues m entries kept
+  pub room : length m.slots ≤ queue_room
+  pub spare : length m.slots ≤ kept_room
+  pub fits : (i : ℕ) (x : Seat) → slot_of m.slots i ≡ Some x → admits i x.number ≡ true
+  pub runs : (i : ℕ) (x : Seat) → slot_of m.slots i ≡ Some x → x.phase ≡ ph.Running → may_run x.run ≡ true

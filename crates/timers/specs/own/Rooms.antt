@@ -5,7 +5,7 @@ use Rattle.sched_time.specs.Times.{longest}
 use Rattle.sched_time.specs.declared.timing.Timing.{Timing}
 use Rattle.sched_time.specs.declared.timing.Timing.TheVariants as t
 use Rattle.queue_code.specs.Calls.{Planned}
-use Rattle.executor_core.specs.Histories.{HistoryEntry}
+use Rattle.executor_model.specs.Histories.{HistoryEntry}
 use Rattle.task_table.specs.Changes.{grown}
 use Rattle.live_core.specs.declared.answers.Submitted.{Submitted}
 use Rattle.live_core.specs.declared.answers.Submitted.TheVariants as su

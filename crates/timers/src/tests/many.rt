@@ -1,7 +1,7 @@
 //! A thousand tasks, whose slots are used again.
 
 use crate::{Submitted, TaskRef, Timers};
-use executor_core::CancelEffect;
+use executor_model::CancelEffect;
 use sched_time::{Ending, Which};
 use std::alloc::Allocator;
 use std::process::Abort;

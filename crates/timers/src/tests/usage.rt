@@ -1,7 +1,7 @@
 //! The examples of the comments, as they stand there: `tools/docs` compares them.
 
 use crate::{Run, Submitted, Timers};
-use executor_core::Outcome;
+use executor_model::Outcome;
 use sched_time::Ending;
 use std::alloc::Global;
 use std::process::Abort;

@@ -1,11 +1,11 @@
 -- The lines of the last call, by what a session notes of it. (This project's rule.)
 use Rattle.std.specs.Prelude.{ℕ, List, [], ◌++◌}
-use Rattle.executor_core.specs.declared.types.Answer.{Answer}
-use Rattle.executor_core.specs.declared.types.Answer.TheVariants as a
-use Rattle.executor_core.specs.declared.types.Line.{Line}
-use Rattle.executor_core.specs.declared.types.Refusal.TheVariants as refusal
-use Rattle.executor_core.specs.Answers.{bare}
-use Rattle.executor_core.specs.Flows.{lines_at}
+use Rattle.executor_model.specs.declared.types.Answer.{Answer}
+use Rattle.executor_model.specs.declared.types.Answer.TheVariants as a
+use Rattle.executor_model.specs.declared.types.Line.{Line}
+use Rattle.executor_model.specs.declared.types.Refusal.TheVariants as refusal
+use Rattle.executor_model.specs.Answers.{bare}
+use Rattle.executor_model.specs.Flows.{lines_at}
 use Rattle.task_table.specs.declared.seat.TaskRef.{TaskRef}
 use Rattle.live_core.specs.Said.{ending}
 use Rattle.live_core.specs.Shutting.{shutdown_answer}

@@ -2,12 +2,12 @@
 -- All of it is this project's rule.
 use Rattle.std.specs.Prelude.{◌≡◌, ℕ, ◌<◌, ◌≤◌, Bool, false, List, Option, None, slice_index_or}
 use Rattle.queue_code.specs.Calls.{Planned}
-use Rattle.executor_core.specs.declared.types.Happening.{Happening}
-use Rattle.executor_core.specs.declared.types.Line.{Line}
-use Rattle.executor_core.specs.declared.types.Message.{Message}
-use Rattle.executor_core.specs.declared.types.Message.TheVariants as m
-use Rattle.executor_core.specs.Histories.{happenings}
-use Rattle.executor_core.specs.State.{State, after}
+use Rattle.executor_model.specs.declared.types.Happening.{Happening}
+use Rattle.executor_model.specs.declared.types.Line.{Line}
+use Rattle.executor_model.specs.declared.types.Message.{Message}
+use Rattle.executor_model.specs.declared.types.Message.TheVariants as m
+use Rattle.executor_model.specs.Histories.{happenings}
+use Rattle.executor_model.specs.State.{State, after}
 use Rattle.executor_core.specs.CoreView.{CoreView, workers_of, state_of, room_of}
 use Rattle.trace_check.specs.Representatives.{is_busy, representative_of}
 use Rattle.trace_check.specs.Going.{Goes}

@@ -3,7 +3,7 @@
 ghost use Rattle.queue_code.specs.Calls.{IsPlanned};
 
 use crate::Finding;
-use executor_core::{Answer, EventError, Happening, Line, Message, Outcome};
+use executor_model::{Answer, EventError, Happening, Line, Message, Outcome};
 use executor_plain::trace_of_happenings;
 use queue_code::CodeCall;
 use sched_time::{Ending, LONGEST};

@@ -2,7 +2,8 @@
 //! trace conforms, and so does no text that ends in a line of it that is cut short or goes on.
 use super::changes::made_by;
 use super::*;
-use executor_core::{Core, Event, Line};
+use executor_core::Core;
+use executor_model::{Event, Line};
 use executor_plain::trace;
 use plan_compile::compile;
 use queue_code::Code;

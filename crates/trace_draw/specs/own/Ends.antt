@@ -1,6 +1,6 @@
 -- The finishes behind a line, by worker.
 use Rattle.std.specs.Prelude.{◌≡◌, ℕ, ◌<◌, List, Option, None, slice_index_or}
-use Rattle.executor_core.specs.declared.types.Line.{Line}
+use Rattle.executor_model.specs.declared.types.Line.{Line}
 use Rattle.trace_draw.specs.declared.bars.Finish.{Finish}
 use Rattle.trace_draw.specs.Bars.{finish_of}
 

@@ -1,7 +1,7 @@
 //! Which runs and lines a window shows.
 use super::*;
 use crate::{Bar, Finish, place, whole_window};
-use executor_core::{Answer, Message, Outcome};
+use executor_model::{Answer, Message, Outcome};
 
 /// The bar of a run, from its start to its finish.
 fn bar(worker: u8, task: u32, run: u64, first: u64, finish: Option<Finish>) -> Bar {

@@ -1,8 +1,8 @@
 -- Which messages most lines of a trace have.
 -- All of it is this project's rule.
 use Rattle.std.specs.Prelude.{Bool, true, false}
-use Rattle.executor_core.specs.declared.said.Said.{Said}
-use Rattle.executor_core.specs.declared.said.Said.TheVariants as s
+use Rattle.executor_model.specs.declared.said.Said.{Said}
+use Rattle.executor_model.specs.declared.said.Said.TheVariants as s
 
 -- a task is accepted or cancelled, a clock moves, a worker starts a run or finds none, a run is done or is followed by the
 -- next, or an event has no effect

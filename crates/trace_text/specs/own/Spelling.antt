@@ -2,7 +2,7 @@
 -- All of it is this project's rule.
 use Rattle.std.specs.Prelude.{◌≡◌, ℕ, ◌^◌, ◌<◌, ◌≤◌, length}
 use Rattle.std.specs.Fmt.{decimal}
-use Rattle.executor_core.specs.declared.CancelEffect.{CancelEffect}
+use Rattle.executor_model.specs.declared.CancelEffect.{CancelEffect}
 
 -- a task below 2^32
 abbrev pub FitsCancel : ℕ × CancelEffect → Type 0

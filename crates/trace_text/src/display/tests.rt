@@ -1,6 +1,6 @@
 //! Lines and words by hand.
 use crate::display::{LineText, kind_word};
-use executor_core::{Answer, Kind, Line, Message, Outcome};
+use executor_model::{Answer, Kind, Line, Message, Outcome};
 use std::process::Abort;
 use std::test::Fail;
 

@@ -2,7 +2,7 @@
 mod changes;
 
 use crate::event::read_event;
-use executor_core::Event;
+use executor_model::Event;
 use sched_time::Ending;
 use std::process::Abort;
 

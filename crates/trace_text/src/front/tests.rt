@@ -1,6 +1,6 @@
 //! Fronts of bytes by hand.
 use crate::front::{Front, MOST_EVENT_BYTES, front_event, is_part};
-use executor_core::Event;
+use executor_model::Event;
 use sched_time::Ending;
 use std::process::Abort;
 

@@ -3,7 +3,7 @@ ghost use Rattle.std.specs.Prelude.{◌<◌, length};
 
 use crate::line::{read_line, split_line};
 use crate::line_text::write_line;
-use executor_core::{Answer, Line, Message};
+use executor_model::{Answer, Line, Message};
 use std::process::Abort;
 use std::test::Fail;
 

@@ -1,7 +1,7 @@
 //! Lines of a trace by hand.
 use crate::line_text::{LINE_ROOM, put_line_here, write_line};
 use crate::stamp::Stamp;
-use executor_core::{Answer, CancelEffect, EventError, Kind, Line, Message, Outcome, Refusal};
+use executor_model::{Answer, CancelEffect, EventError, Kind, Line, Message, Outcome, Refusal};
 use sched_time::Which;
 use std::process::Abort;
 

@@ -1,7 +1,7 @@
 //! Lines one behind the other, of one moment and of others.
 use crate::line_text::{LINE_ROOM, put_line};
 use crate::stamp::Stamp;
-use executor_core::{Answer, Line, Message};
+use executor_model::{Answer, Line, Message};
 use std::process::Abort;
 
 const TEXT: &str =

@@ -6,8 +6,8 @@ use Rattle.task_word.specs.Views.{entry, with_entry}
 use Rattle.task_word.specs.declared.views.CoreSeatView.{CoreSeatView}
 use Rattle.task_word.specs.declared.answers.CoreCancel.TheVariants as core
 use Rattle.task_word.specs.Answers.{after_cancel}
-use Rattle.executor_core.specs.declared.types.Need.{Need}
-use Rattle.executor_core.specs.declared.types.Need.TheVariants as n
+use Rattle.executor_model.specs.declared.types.Need.{Need}
+use Rattle.executor_model.specs.declared.types.Need.TheVariants as n
 
 -- the seat met task k cancelled
 abbrev pub with_mark : CoreSeatView → ℕ → CoreSeatView

@@ -2,10 +2,10 @@
 use Rattle.std.specs.Prelude.{◌≡◌, ℕ, ◌+◌, ◌-◌, ◌^◌, ◌<◌, min, zero, suc, is_some, if◌then◌else◌, ◌↔◌, ◌⊎◌, Bool, true, false, IsTrue, IsSome, Option, Some, None, unwrap_or}
 use Rattle.sched_time.specs.declared.timing.Ending.{Ending}
 use Rattle.executor_core.specs.CoreView.{state_of}
-use Rattle.executor_core.specs.State.{view_of_state}
-use Rattle.executor_core.specs.Needs.{IsRipe}
-use Rattle.executor_core.specs.declared.types.Event.{Event}
-use Rattle.executor_core.specs.declared.types.Event.TheVariants as v
+use Rattle.executor_model.specs.State.{view_of_state}
+use Rattle.executor_model.specs.Needs.{IsRipe}
+use Rattle.executor_model.specs.declared.types.Event.{Event}
+use Rattle.executor_model.specs.declared.types.Event.TheVariants as v
 use Rattle.worker_pool.specs.declared.applied.Work.{Work}
 use Rattle.worker_pool.specs.declared.error.PoolError.{PoolError}
 use Rattle.worker_pool.specs.declared.error.PoolError.TheVariants as p

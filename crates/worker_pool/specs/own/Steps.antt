@@ -6,18 +6,18 @@ use Rattle.task_word.specs.Views.{entry}
 use Rattle.task_word.specs.declared.views.CoreSeatView.{CoreSeatView}
 use Rattle.task_word.specs.declared.views.HandleSeatView.{HandleSeatView}
 use Rattle.queue_code.specs.Calls.{Planned, IsPlanned, task_count}
-use Rattle.executor_core.specs.declared.types.Happening.{Happening}
-use Rattle.executor_core.specs.declared.types.Happening.TheVariants as h
-use Rattle.executor_core.specs.declared.types.Line.{Line}
-use Rattle.executor_core.specs.declared.types.Event.{Event}
-use Rattle.executor_core.specs.declared.types.Need.{Need}
-use Rattle.executor_core.specs.declared.types.Need.TheVariants as n
-use Rattle.executor_core.specs.Histories.{HistoryEntry, IsHistoryOf, happenings, is_call, is_end, was_cancelled, made_after, MayFrom, is_end as stands_in}
-use Rattle.executor_core.specs.Answers.{moment_after}
-use Rattle.executor_core.specs.Flows.{lines_of, part_of}
-use Rattle.executor_core.specs.State.{State, after, reply_of}
+use Rattle.executor_model.specs.declared.types.Happening.{Happening}
+use Rattle.executor_model.specs.declared.types.Happening.TheVariants as h
+use Rattle.executor_model.specs.declared.types.Line.{Line}
+use Rattle.executor_model.specs.declared.types.Event.{Event}
+use Rattle.executor_model.specs.declared.types.Need.{Need}
+use Rattle.executor_model.specs.declared.types.Need.TheVariants as n
+use Rattle.executor_model.specs.Histories.{HistoryEntry, IsHistoryOf, happenings, is_call, is_end, was_cancelled, made_after, MayFrom, is_end as stands_in}
+use Rattle.executor_model.specs.Answers.{moment_after}
+use Rattle.executor_model.specs.Flows.{lines_of, part_of}
+use Rattle.executor_model.specs.State.{State, after, reply_of}
 use Rattle.executor_core.specs.CoreView.{CoreView, workers_of, state_of, room_of, IsCounted}
-use Rattle.executor_core.specs.Needs.{need_of}
+use Rattle.executor_model.specs.Needs.{need_of}
 use Rattle.executor_laws.specs.TaskWords.{word_after}
 use Rattle.worker_pool.specs.Books.{history_for, was_outside, FitsWord}
 use Rattle.worker_pool.specs.Applies.{calls_in, SaysYes, is_in_way, WereInWay}

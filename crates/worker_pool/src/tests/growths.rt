@@ -9,7 +9,7 @@ ghost use Rattle.task_word.specs.Views.{new_core};
 
 use super::{Handles, Row, Step, Told, check_lines, happenings_of, read_script, step_of};
 use crate::{Book, Named, PoolError, Shared};
-use executor_core::{Happening, Line};
+use executor_model::{Happening, Line};
 use heap_allocator::HeapAllocator;
 use plan_compile::compile;
 use plan_read::{Plan, read_plan};

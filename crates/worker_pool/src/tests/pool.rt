@@ -14,7 +14,7 @@ ghost use Rattle.queue_code.specs.Codes.{calls_of};
 ghost use Rattle.task_word.specs.Views.{new_core};
 
 use crate::{Applied, Book, Handle, Job, Named, Pool, PoolError, Shared};
-use executor_core::{Answer, Line, Message, Outcome};
+use executor_model::{Answer, Line, Message, Outcome};
 use plan_compile::compile;
 use plan_read::{Plan, read_plan};
 use queue_code::Code;

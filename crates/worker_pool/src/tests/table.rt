@@ -4,7 +4,7 @@ ghost use Rattle.std.specs.Prelude.{◌≡◌, IfOk};
 ghost use Rattle.queue_code.specs.Codes.{calls_of};
 
 use super::{Played, Step, Told, play_code};
-use executor_core::{Answer, CancelEffect, Event, Line, Message};
+use executor_model::{Answer, CancelEffect, Event, Line, Message};
 use executor_plain::trace_of_happenings;
 use plan_compile::compile;
 use plan_read::{Plan, read_plan};

@@ -5,7 +5,7 @@ ghost use Rattle.queue_code.specs.Codes.{calls_of};
 ghost use Rattle.task_word.specs.Views.{new_core};
 
 use crate::{Book, Named, PoolError, Shared};
-use executor_core::Event;
+use executor_model::Event;
 use plan_compile::compile;
 use plan_read::read_plan;
 use queue_code::Code;

@@ -1,4 +1,4 @@
-use Rattle.executor_core.proofs.Agree.{after_agrees}
+use Rattle.executor_model.proofs.Agree.{after_agrees}
 use Rattle.executor_laws.proofs.laws.states_answer.Goals as goal
 
 pub returns : goal.returns

@@ -1,7 +1,7 @@
 use Rattle.std.proofs.Common.{◌≡◌, ℕ, List, ap, sym, ◌∙◌, subst}
 use Rattle.std.specs.Prelude.{IfOk, max}
-use Rattle.executor_core.specs.Answers.{Reply, called}
-use Rattle.executor_core.specs.Histories.{view_of_history}
+use Rattle.executor_model.specs.Answers.{Reply, called}
+use Rattle.executor_model.specs.Histories.{view_of_history}
 use Rattle.executor_plain.proofs.Plains.{call_replies}
 use Rattle.executor_plain.proofs.ends.ends_after.Goals as goal
 

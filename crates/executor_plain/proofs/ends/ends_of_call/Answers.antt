@@ -2,10 +2,10 @@ use Rattle.std.proofs.Common.{◌≡◌, ℕ, List, Bool, cond, true, false, [],
 use Rattle.std.specs.Prelude.{IfOk}
 use Rattle.queue_code.specs.declared.call.CodeCall.{CodeCall}
 use Rattle.sched_time.specs.declared.policies.Policies.{Policies}
-use Rattle.executor_core.specs.declared.types.Answer.TheVariants as a
-use Rattle.executor_core.specs.Answers.{bare, called, setting_sweeps, swept}
+use Rattle.executor_model.specs.declared.types.Answer.TheVariants as a
+use Rattle.executor_model.specs.Answers.{bare, called, setting_sweeps, swept}
 use Rattle.sched_time.specs.Policies.{set_policy}
-use Rattle.executor_core.specs.Histories.{view_of_history}
+use Rattle.executor_model.specs.Histories.{view_of_history}
 use Rattle.executor_plain.proofs.ends.ends_of_call.Goals as goal
 
 pub returns-in-SetPolicy : goal.returns-in-SetPolicy

@@ -1,6 +1,6 @@
 use Rattle.std.proofs.Common.{ℕ, Bool, true, false, List, [], ◌∷◌, ◌++◌, append-nil, sym, ap, ◌∙◌}
-use Rattle.executor_core.specs.Answers.{is_swept}
-use Rattle.executor_core.specs.Histories.{view_of_history}
+use Rattle.executor_model.specs.Answers.{is_swept}
+use Rattle.executor_model.specs.Histories.{view_of_history}
 use Rattle.executor_plain.proofs.Plains.{filter_next}
 use Rattle.executor_plain.proofs.ends.swept.Goals.{then-is_swept+in_ok-push, else-is_swept}
 use Rattle.executor_plain.proofs.ends.swept.Goals as goal

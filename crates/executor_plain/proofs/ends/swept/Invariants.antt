@@ -1,7 +1,7 @@
 use Rattle.std.proofs.Common.{◌≡◌}
 use Rattle.std.specs.List.{filter, range_with_len}
-use Rattle.executor_core.specs.Answers.{is_swept}
-use Rattle.executor_core.specs.Histories.{view_of_history}
+use Rattle.executor_model.specs.Answers.{is_swept}
+use Rattle.executor_model.specs.Histories.{view_of_history}
 use Rattle.executor_plain.proofs.ends.swept.Given as goal
 
 abbrev pub invariant-loop-k : goal.invariant-loop-k

@@ -1,9 +1,9 @@
 use Rattle.std.proofs.Common.{ℕ, ◌+◌, ◌-◌, Bool, true, false, arith, sym, ◌∙◌}
 use Rattle.std.specs.List.{range_with_len}
 use Rattle.std.proofs.lemmas.List.FromFn.{length-range_with_len}
-use Rattle.executor_core.specs.Answers.{is_queued}
-use Rattle.executor_core.specs.Histories.{view_of_history}
-use Rattle.executor_core.proofs.Flowing.{how_many-le}
+use Rattle.executor_model.specs.Answers.{is_queued}
+use Rattle.executor_model.specs.Histories.{view_of_history}
+use Rattle.executor_model.proofs.Flowing.{how_many-le}
 use Rattle.executor_plain.proofs.Plains.{count_more}
 use Rattle.executor_plain.proofs.queue.+count_queued.Goals as goal
 

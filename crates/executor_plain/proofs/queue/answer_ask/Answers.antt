@@ -1,10 +1,10 @@
 use Rattle.std.proofs.Common.{◌≡◌, ℕ, arith, ap, ◌∙◌}
 use Rattle.std.specs.List.{range_with_len}
-use Rattle.executor_core.specs.declared.types.Answer.TheVariants as a
+use Rattle.executor_model.specs.declared.types.Answer.TheVariants as a
 use Rattle.queue_code.specs.Calls.{how_many}
-use Rattle.executor_core.specs.View.{is_running}
-use Rattle.executor_core.specs.Answers.{is_queued, is_terminated, queue_size, running_count}
-use Rattle.executor_core.specs.Histories.{view_of_history}
+use Rattle.executor_model.specs.View.{is_running}
+use Rattle.executor_model.specs.Answers.{is_queued, is_terminated, queue_size, running_count}
+use Rattle.executor_model.specs.Histories.{view_of_history}
 use Rattle.executor_plain.proofs.Plains.{task_count_le}
 use Rattle.executor_plain.proofs.queue.answer_ask.Goals as goal
 

@@ -1,7 +1,7 @@
 use Rattle.std.proofs.Common.{sym, ap, ◌∙◌}
 use Rattle.queue_code.specs.declared.call.CodeCall.{CodeCall}
-use Rattle.executor_core.specs.Answers.{called}
-use Rattle.executor_core.specs.Histories.{view_of_history}
+use Rattle.executor_model.specs.Answers.{called}
+use Rattle.executor_model.specs.Histories.{view_of_history}
 use Rattle.executor_plain.proofs.table.answer_call.Goals as goal
 
 pub returns-in-Submit : goal.returns-in-Submit

@@ -1,4 +1,4 @@
-use Rattle.executor_core.proofs.Within.{none_within}
+use Rattle.executor_model.proofs.Within.{none_within}
 use Rattle.executor_plain.proofs.table.answer_submission.Goals as goal
 
 pub due_at-requires-clause-within : goal.due_at-requires-clause-within

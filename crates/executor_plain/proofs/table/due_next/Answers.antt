@@ -1,9 +1,9 @@
 use Rattle.std.proofs.Common.{◌≡◌, ℕ, ◌≤◌, Some, sym, subst}
 use Rattle.queue_code.specs.Calls.{terms_of, due_at}
-use Rattle.executor_core.specs.Answers.{due_next}
-use Rattle.executor_core.specs.Histories.{view_of_history}
-use Rattle.executor_core.specs.Within.{latest_due}
-use Rattle.executor_core.proofs.Within.{answered_within, next_within}
+use Rattle.executor_model.specs.Answers.{due_next}
+use Rattle.executor_model.specs.Histories.{view_of_history}
+use Rattle.executor_model.specs.Within.{latest_due}
+use Rattle.executor_model.proofs.Within.{answered_within, next_within}
 use Rattle.executor_plain.proofs.table.due_next.Goals as goal
 
 pub due_at-requires-clause-within : goal.due_at-requires-clause-within

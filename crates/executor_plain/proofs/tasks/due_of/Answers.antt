@@ -1,8 +1,8 @@
 use Rattle.std.proofs.Common.{◌≡◌, ℕ, ◌≤◌, sym, subst}
 use Rattle.queue_code.specs.Calls.{terms_of, due_at}
-use Rattle.executor_core.specs.Histories.{due_of}
-use Rattle.executor_core.specs.Within.{latest_due}
-use Rattle.executor_core.proofs.Within.{answered_within}
+use Rattle.executor_model.specs.Histories.{due_of}
+use Rattle.executor_model.specs.Within.{latest_due}
+use Rattle.executor_model.proofs.Within.{answered_within}
 use Rattle.executor_plain.proofs.tasks.due_of.Goals as goal
 
 pub due_at-requires-clause-within : goal.due_at-requires-clause-within

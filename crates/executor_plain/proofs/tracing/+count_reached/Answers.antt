@@ -1,6 +1,6 @@
 use Rattle.std.proofs.Common.{◌-◌, nat_le, length, take, drop, arith, length-take, length-drop}
 use Rattle.queue_code.specs.Calls.{Planned}
-use Rattle.executor_core.proofs.Flowing.{how_many-le}
+use Rattle.executor_model.proofs.Flowing.{how_many-le}
 use Rattle.executor_plain.proofs.tracing.+count_reached.Goals as goal
 
 pub overflow_add-result : goal.overflow_add-result

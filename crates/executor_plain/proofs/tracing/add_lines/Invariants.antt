@@ -1,5 +1,5 @@
 use Rattle.std.proofs.Common.{◌≡◌, ◌∷◌, ◌++◌, map, take}
-use Rattle.executor_core.specs.Flows.{answer_line, end_line}
+use Rattle.executor_model.specs.Flows.{answer_line, end_line}
 use Rattle.executor_plain.proofs.tracing.add_lines.Given as goal
 
 abbrev pub invariant-loop-task : goal.invariant-loop-task

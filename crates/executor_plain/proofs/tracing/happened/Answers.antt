@@ -1,8 +1,8 @@
-use Rattle.executor_core.specs.declared.types.Happening.TheVariants as h
+use Rattle.executor_model.specs.declared.types.Happening.TheVariants as h
 use Rattle.std.proofs.Common.{[], take, sym, subst}
 use Rattle.std.specs.Prelude.{reverse}
-use Rattle.executor_core.specs.Within.{IsAnsweredByTable}
-use Rattle.executor_core.proofs.Within.{answered_from}
+use Rattle.executor_model.specs.Within.{IsAnsweredByTable}
+use Rattle.executor_model.proofs.Within.{answered_from}
 use Rattle.executor_plain.proofs.Plains.{one_happening}
 use Rattle.executor_plain.proofs.tracing.happened.Goals as goal
 

@@ -1,6 +1,6 @@
 use Rattle.std.proofs.Common.{◌≡◌, [], take}
 use Rattle.std.specs.Prelude.{reverse}
-use Rattle.executor_core.specs.Flows.{history_from}
+use Rattle.executor_model.specs.Flows.{history_from}
 use Rattle.executor_plain.proofs.tracing.happened.Given as goal
 
 abbrev pub invariant-loop-happening : goal.invariant-loop-happening

@@ -1,9 +1,9 @@
-use Rattle.executor_core.specs.declared.types.Event.TheVariants as v
+use Rattle.executor_model.specs.declared.types.Event.TheVariants as v
 use Rattle.std.proofs.Common.{[], take, sym, subst}
 use Rattle.std.specs.Prelude.{reverse}
-use Rattle.executor_core.specs.Flows.{flow}
-use Rattle.executor_core.specs.Within.{IsAnsweredByTable}
-use Rattle.executor_core.proofs.Within.{answered_from}
+use Rattle.executor_model.specs.Flows.{flow}
+use Rattle.executor_model.specs.Within.{IsAnsweredByTable}
+use Rattle.executor_model.proofs.Within.{answered_from}
 use Rattle.executor_plain.proofs.Plains.{one_event}
 use Rattle.executor_plain.proofs.tracing.history_of.Goals as goal
 

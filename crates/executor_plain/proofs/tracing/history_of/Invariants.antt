@@ -1,6 +1,6 @@
 use Rattle.std.proofs.Common.{◌≡◌, take}
 use Rattle.std.specs.Prelude.{reverse}
-use Rattle.executor_core.specs.Flows.{history_of}
+use Rattle.executor_model.specs.Flows.{history_of}
 use Rattle.executor_plain.proofs.tracing.history_of.Given as goal
 
 abbrev pub invariant-loop-event : goal.invariant-loop-event

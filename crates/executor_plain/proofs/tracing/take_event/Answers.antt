@@ -1,9 +1,9 @@
 use Rattle.std.proofs.Common.{◌≡◌, ℕ, [], ◌∷◌, sym, ap, ◌∙◌, subst}
 use Rattle.std.specs.Prelude.{OnOk, replicate}
-use Rattle.executor_core.specs.declared.types.Happening.TheVariants as h
-use Rattle.executor_core.specs.Flows.{history_from}
-use Rattle.executor_core.specs.Within.{IsAnsweredByTable}
-use Rattle.executor_core.proofs.Within.{answered_from}
+use Rattle.executor_model.specs.declared.types.Happening.TheVariants as h
+use Rattle.executor_model.specs.Flows.{history_from}
+use Rattle.executor_model.specs.Within.{IsAnsweredByTable}
+use Rattle.executor_model.proofs.Within.{answered_from}
 use Rattle.executor_plain.proofs.Plains.{count_before}
 use Rattle.executor_plain.proofs.tracing.take_event.Goals as goal
 

@@ -1,7 +1,8 @@
 //! What is foreseen of a happening: the need of it, and the end of the run that it ends. What then comes is what comes
 //! where nothing was foreseen.
 use super::{core_of, nanos, submission, take, text_of_lines};
-use executor_core::{Core, Happening, Line, Outcome, RunEnd};
+use executor_core::{Core, RunEnd};
+use executor_model::{Happening, Line, Outcome};
 use queue_code::Instr;
 use sched_time::{Ending, Timing};
 use std::alloc::{AllocGlobal, Allocator, Global};

@@ -1,6 +1,7 @@
 //! Which calls take memory, and what a refusal gives back, over a heap of fixed size.
 use super::{code_of, core_of, give, nanos, refusal_of, submission, submissions};
-use executor_core::{Core, CoreError, Event, Line, make_room};
+use executor_core::{Core, CoreError, make_room};
+use executor_model::{Event, Line};
 use linked_list_allocator::LocalHeap;
 use queue_code::Instr;
 use sched_time::{Ending, Timing, Which};

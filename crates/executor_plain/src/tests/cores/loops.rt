@@ -1,6 +1,7 @@
 //! What cores of codes with loops take.
 use super::{core_of, give};
-use executor_core::{Core, Event};
+use executor_core::Core;
+use executor_model::Event;
 use linked_list_allocator::LocalHeap;
 use queue_code::Instr;
 use std::alloc::AllocGlobal;

@@ -1,6 +1,7 @@
 //! What is told before each happening: what it moves of the words, and whom a sweep ends.
 use super::{core_of, nanos, submission, take, two_timers};
-use executor_core::{Core, Happening, Line, Need};
+use executor_core::Core;
+use executor_model::{Happening, Line, Need};
 use queue_code::Instr;
 use sched_time::{Ending, Timing, Which};
 use std::alloc::{AllocGlobal, Allocator, Global};

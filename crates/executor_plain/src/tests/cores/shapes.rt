@@ -1,5 +1,5 @@
 //! How many bytes the shapes of happenings and of lines take, and that a happening is kept as it is.
-use executor_core::{Answer, Event, Happening, KeptHappening, Line, Message, Outcome};
+use executor_model::{Answer, Event, Happening, KeptHappening, Line, Message, Outcome};
 use sched_time::Ending;
 use std::test::Fail;
 

@@ -1,6 +1,7 @@
 //! What a core tells between single happenings: whether a task is ripe, how much room it has, and whether it is full.
 use super::{core_of, refusal_of, submission, take, two_timers};
-use executor_core::{Core, CoreError, Event, Happening, Line};
+use executor_core::{Core, CoreError};
+use executor_model::{Event, Happening, Line};
 use std::alloc::{AllocGlobal, Allocator};
 use std::process::Abort;
 use std::test::Fail;

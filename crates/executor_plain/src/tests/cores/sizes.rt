@@ -1,6 +1,7 @@
 //! Cores and lines of several sizes, with ample memory.
 use super::{code_of, core_of, give, lines_after, refusal_of, submissions};
-use executor_core::{Answer, Core, CoreError, Event, Line, Message};
+use executor_core::{Core, CoreError};
+use executor_model::{Answer, Event, Line, Message};
 use queue_code::{Instr, MOST_CALLS};
 use std::alloc::{AllocGlobal, Allocator};
 use std::process::Abort;

@@ -1,6 +1,6 @@
 //! The lines of the tasks that a shutdown ends, orderly or at once.
 use super::{lines_after, nanos};
-use executor_core::{Answer, Event, Line, Message};
+use executor_model::{Answer, Event, Line, Message};
 use queue_code::Instr;
 use sched_time::Timing;
 use std::alloc::Global;

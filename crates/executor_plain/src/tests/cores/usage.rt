@@ -1,8 +1,33 @@
-//! The examples of the comments of `executor_core`, as they stand there: `tools/docs` compares them.
-use executor_core::{Answer, Core, CoreError, Event, Happening, Line, Message, Outcome};
+//! The examples of the comments of `executor_model` and `executor_core`, as they stand there: `tools/docs` compares them.
+use executor_core::{Core, CoreError};
+use executor_model::{Answer, Event, Happening, KeptHappening, Line, Message, Outcome, Said};
 use queue_code::{Code, Instr};
 use sched_time::{Ending, Timing};
 use std::test::Fail;
+
+#[test]
+fn what_is_said_is_kept(rt: HostRuntime) -> Result<(), Fail> {
+    // example: executor_model
+    // At moment 5 worker 0 has a run of task 0 behind it, which gave the value 7.
+    let outcome = Outcome::Done(7);
+    let answer = Answer::Finish {
+        worker: 0,
+        task: 0,
+        run: 0,
+        outcome,
+    };
+    let line = Line::new(5, Message::Answer(answer));
+
+    assert_eq!(rt; line.moment(), 5);
+    assert_eq!(rt; line.message(), Message::Answer(answer));
+    // The line keeps it without nesting, and so it can be looked at.
+    assert_eq!(rt; *line.said(), Said::finish(0, 0, 0, outcome));
+    // What is kept of a happening is that happening.
+    let happening = Event::Finish(0, Ending::Value(7)).happening();
+    assert_eq!(rt; KeptHappening::new(happening).happening(), happening);
+    // end of example
+    Ok(())
+}
 
 #[test]
 fn the_page_is_run(rt: HostRuntime) -> Result<(), Fail> {

@@ -1,6 +1,7 @@
 //! What the words of the tasks say after each event.
 use super::{core_of, give, nanos, submission};
-use executor_core::{Core, Event, Line};
+use executor_core::Core;
+use executor_model::{Event, Line};
 use queue_code::Instr;
 use sched_time::{Ending, Timing, Which};
 use std::alloc::{AllocGlobal, Allocator, Global};

@@ -1,8 +1,8 @@
 -- All lines are added.
 use Rattle.std.proofs.Common.{◌≡◌, ◌++◌, ◌∷◌, [], ◌∙◌, ℕ, List, map, refl, ap, arith}
 use Rattle.std.proofs.lemmas.List.{take_all}
-use Rattle.executor_core.specs.declared.types.Line.{Line}
-use Rattle.executor_core.specs.Flows.{end_line}
+use Rattle.executor_model.specs.declared.types.Line.{Line}
+use Rattle.executor_model.specs.Flows.{end_line}
 use Rattle.task_table.specs.declared.seat.TaskRef.{TaskRef}
 use Rattle.task_table.specs.Endings.{numbers_of}
 use Rattle.live_core.proofs.lines.push_ends.Goals as goal

@@ -1,6 +1,6 @@
 -- The lines of the tasks before this one are added.
 use Rattle.std.proofs.Common.{◌≡◌, ◌++◌, map, take, vec_capacity}
-use Rattle.executor_core.specs.Flows.{end_line}
+use Rattle.executor_model.specs.Flows.{end_line}
 use Rattle.live_core.proofs.lines.push_ends.Given as goal
 
 abbrev pub invariant-loop-task : goal.invariant-loop-task

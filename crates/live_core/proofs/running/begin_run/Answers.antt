@@ -1,8 +1,12 @@
 -- The kept tasks that the start meets are gone, and it takes its step.
+use Rattle.task_table.proofs.Spent.{may_run}
 use Rattle.live_core.proofs.Alive.{alive_started}
 use Rattle.live_core.proofs.Workers.{start_numbers, noted_started, runs_started, steps_started}
 use Rattle.live_core.proofs.Leaving.{leaves_same, leaves_more}
 use Rattle.live_core.proofs.running.begin_run.Goals as goal
+
+pub start-requires-clause-runs : goal.start-requires-clause-runs
+start-requires-clause-runs g c = may_run c.drop_met.new.table
 
 pub returns-clause-noted : goal.returns-clause-noted
 returns-clause-noted g c = λ count ended_room noted.

@@ -1,8 +1,8 @@
 -- Each task that is dropped has left its slot, and fewer are kept then.
 use Rattle.std.proofs.Common.{◌≡◌, ℕ, true, List, length}
 use Rattle.queue_code.specs.Calls.{Planned}
-use Rattle.executor_core.specs.declared.types.Happening.TheVariants as h
-use Rattle.executor_core.specs.Histories.{HistoryEntry}
+use Rattle.executor_model.specs.declared.types.Happening.TheVariants as h
+use Rattle.executor_model.specs.Histories.{HistoryEntry}
 use Rattle.task_table.specs.Tables.{IsNextCall, StandsBefore}
 use Rattle.task_table.specs.Firsts.{kept_in}
 use Rattle.task_table.specs.Ends.{sweeps_at}

@@ -2,7 +2,7 @@
 use Rattle.std.proofs.Common.{◌≡◌, ℕ, List, length, take, drop}
 use Rattle.std.specs.List.{All}
 use Rattle.queue_code.specs.Calls.{Planned}
-use Rattle.executor_core.specs.Histories.{HistoryEntry}
+use Rattle.executor_model.specs.Histories.{HistoryEntry}
 use Rattle.task_table.specs.Tables.{Stands}
 use Rattle.live_core.specs.own.Places.{IsEmptyAt}
 use Rattle.live_core.specs.own.Formed.{AreNoted}

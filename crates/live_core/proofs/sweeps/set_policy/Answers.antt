@@ -3,8 +3,8 @@ use Rattle.std.proofs.Common.{◌≡◌, ◌∙◌, true, vec_capacity, refl, sy
 use Rattle.std.specs.List.{All}
 use Rattle.sched_time.specs.Policies as settings
 use Rattle.queue_code.specs.declared.call.CodeCall.TheVariants as call
-use Rattle.executor_core.specs.declared.types.Answer.TheVariants as answer
-use Rattle.executor_core.specs.Answers.{setting_sweeps}
+use Rattle.executor_model.specs.declared.types.Answer.TheVariants as answer
+use Rattle.executor_model.specs.Answers.{setting_sweeps}
 use Rattle.task_table.specs.Tables.{TableView, workers_of}
 use Rattle.task_table.specs.Changes.{at_moment}
 use Rattle.live_core.specs.Said.{ending}

@@ -3,7 +3,7 @@ use Rattle.std.proofs.Common.{◌≡◌, ◌∙◌, true, false, vec_capacity, r
 use Rattle.std.specs.List.{All}
 use Rattle.std.specs.Prelude.{not}
 use Rattle.queue_code.specs.declared.call.CodeCall.TheVariants as call
-use Rattle.executor_core.specs.declared.types.Answer.TheVariants as answer
+use Rattle.executor_model.specs.declared.types.Answer.TheVariants as answer
 use Rattle.task_table.specs.Tables.{TableView, workers_of}
 use Rattle.task_table.specs.Changes.{at_moment}
 use Rattle.live_core.specs.Said.{ending}

@@ -2,7 +2,7 @@
 use Rattle.std.proofs.Common.{◌≡◌, ◌∙◌, true, vec_capacity, refl, ap, subst}
 use Rattle.std.specs.List.{All}
 use Rattle.queue_code.specs.declared.call.CodeCall.TheVariants as call
-use Rattle.executor_core.specs.declared.types.Answer.TheVariants as answer
+use Rattle.executor_model.specs.declared.types.Answer.TheVariants as answer
 use Rattle.task_table.specs.Tables.{TableView, workers_of}
 use Rattle.task_table.specs.Changes.{at_moment}
 use Rattle.live_core.specs.Said.{ending}

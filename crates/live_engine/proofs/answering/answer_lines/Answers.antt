@@ -1,5 +1,5 @@
 use Rattle.std.proofs.Common.{◌≡◌, ℕ, ◌+◌, List, ◌∷◌, ◌++◌, length, ap, sym, subst, arith, length-append}
-use Rattle.executor_core.specs.declared.Line.{Line}
+use Rattle.executor_model.specs.declared.Line.{Line}
 use Rattle.call_journal.specs.Journals.{JournalView}
 use Rattle.sched_engine.specs.Pieces.{Output}
 use Rattle.byte_ends.proofs.Tries.{good_then_bad, good_then_good}

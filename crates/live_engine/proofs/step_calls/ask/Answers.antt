@@ -1,15 +1,14 @@
-use Rattle.std.proofs.Common.{sym, ap, subst}
+use Rattle.std.proofs.Common.{sym, ap, subst, ◌≡◌, IfOk, Result, Ok, Err, refl}
 use Rattle.call_text.specs.declared.call.CallLine.TheVariants as call
-use Rattle.executor_core.specs.declared.types.Answer.{Answer}
-use Rattle.executor_core.specs.declared.types.Answer.TheVariants as a
-use Rattle.executor_core.specs.Answers.{bare}
+use Rattle.executor_model.specs.declared.types.Answer.{Answer}
+use Rattle.executor_model.specs.declared.types.Answer.TheVariants as a
+use Rattle.executor_model.specs.Answers.{bare}
 use Rattle.live_core.specs.Said.{ending}
 use Rattle.live_engine.specs.declared.stops.PieceEnd.{PieceEnd}
 use Rattle.live_engine.specs.declared.live_line.LiveLine.TheVariants as l
 use Rattle.live_engine.specs.own.LiveSteps.{Refuses, TakesLine}
 use Rattle.live_engine.proofs.Steps.{takes_call}
 use Rattle.live_engine.proofs.Replied.{call_quiet, memory_refuses, refuses_late}
-use Rattle.std.proofs.Common.{◌≡◌, IfOk, Result, Ok, Err, refl}
 use Rattle.live_engine.proofs.step_calls.ask.Goals as goal
 
 pub returns-in-Ok-clause-takes : goal.returns-in-Ok-clause-takes

@@ -1,6 +1,6 @@
 use Rattle.std.proofs.Common.{refl, sym, subst}
 use Rattle.call_text.specs.declared.call.CallLine.TheVariants as call
-use Rattle.executor_core.specs.declared.types.Answer.TheVariants as a
+use Rattle.executor_model.specs.declared.types.Answer.TheVariants as a
 use Rattle.live_engine.specs.declared.stops.PieceEnd.{PieceEnd}
 use Rattle.live_engine.specs.declared.live_line.LiveLine.TheVariants as l
 use Rattle.live_engine.specs.own.LiveSteps.{Refuses}

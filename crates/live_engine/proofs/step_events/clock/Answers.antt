@@ -1,8 +1,8 @@
 use Rattle.std.proofs.Common.{refl}
-use Rattle.executor_core.specs.declared.types.Answer.TheVariants as a
-use Rattle.executor_core.specs.declared.types.Event.TheVariants as v
-use Rattle.executor_core.specs.declared.types.Happening.TheVariants as h
-use Rattle.executor_core.specs.Answers.{bare}
+use Rattle.executor_model.specs.declared.types.Answer.TheVariants as a
+use Rattle.executor_model.specs.declared.types.Event.TheVariants as v
+use Rattle.executor_model.specs.declared.types.Happening.TheVariants as h
+use Rattle.executor_model.specs.Answers.{bare}
 use Rattle.live_engine.proofs.Steps.{within_no_start}
 use Rattle.live_engine.proofs.Replied.{event_fails, event_quiet}
 use Rattle.live_engine.proofs.step_events.clock.Goals as goal

@@ -1,6 +1,6 @@
 use Rattle.std.proofs.Common.{refl}
-use Rattle.executor_core.specs.declared.types.Event.TheVariants as v
-use Rattle.executor_core.specs.declared.types.Happening.TheVariants as h
+use Rattle.executor_model.specs.declared.types.Event.TheVariants as v
+use Rattle.executor_model.specs.declared.types.Happening.TheVariants as h
 use Rattle.live_core.specs.Events.{finish_reply}
 use Rattle.live_engine.proofs.Steps.{within_no_start}
 use Rattle.live_engine.proofs.Replied.{event_fails, event_quiet}

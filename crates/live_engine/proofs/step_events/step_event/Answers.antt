@@ -1,5 +1,5 @@
 use Rattle.std.proofs.Common.{sym, subst}
-use Rattle.executor_core.specs.declared.Event.{Event}
+use Rattle.executor_model.specs.declared.Event.{Event}
 use Rattle.live_core.specs.Said.{ending}
 use Rattle.live_engine.specs.declared.live_line.LiveLine.TheVariants as l
 use Rattle.live_engine.specs.own.LiveSteps.{TakesLine}

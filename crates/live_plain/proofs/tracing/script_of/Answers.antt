@@ -4,7 +4,7 @@ use Rattle.std.proofs.lemmas.Bool.{false≢true}
 use Rattle.std.proofs.lemmas.List.{take_all}
 use Rattle.live_engine.specs.declared.live_line.LiveLine.{LiveLine}
 use Rattle.live_engine.specs.declared.live_line.LiveLine.TheVariants as l
-use Rattle.executor_core.specs.declared.types.Event.TheVariants as v
+use Rattle.executor_model.specs.declared.types.Event.TheVariants as v
 use Rattle.live_engine.specs.LiveLines.{live_history}
 use Rattle.live_plain.specs.own.Scripts.{ShowsAll}
 use Rattle.live_plain.proofs.Taking.{each_plain, line_shown}

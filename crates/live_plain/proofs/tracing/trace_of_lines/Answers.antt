@@ -2,8 +2,8 @@ use Rattle.std.proofs.Common.{◌≡◌, ℕ, ◌∙◌, List, [], Option, Some,
 use Rattle.std.specs.Prelude.{reverse, MatchOption}
 use Rattle.std.proofs.lemmas.Bool.{false≢true}
 use Rattle.queue_code.specs.Calls.{IsPlanned}
-use Rattle.executor_core.specs.declared.types.Line.{Line}
-use Rattle.executor_core.specs.Flows.{history_from, lines_of}
+use Rattle.executor_model.specs.declared.types.Line.{Line}
+use Rattle.executor_model.specs.Flows.{history_from, lines_of}
 use Rattle.live_engine.specs.declared.live_line.LiveLine.{LiveLine}
 use Rattle.live_engine.specs.LiveLines.{live_history}
 use Rattle.live_plain.specs.own.Scripts.{ScriptView, ShowsAll}

@@ -1,5 +1,5 @@
 use Rattle.std.proofs.Common.{◌++◌, ◌∷◌, [], ap, ◌∙◌, arith}
-use Rattle.executor_core.specs.declared.Event.TheVariants.{Clock}
+use Rattle.executor_model.specs.declared.Event.TheVariants.{Clock}
 use Rattle.sched_engine.proofs.Inputs.{fewer_left, left_more}
 use Rattle.pool_engine.proofs.Taking.{takes_more}
 use Rattle.pool_engine.proofs.clocks.take_clocks.Goals as goal

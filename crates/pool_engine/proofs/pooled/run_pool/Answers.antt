@@ -1,6 +1,6 @@
 use Rattle.std.proofs.Common.{◌≡◌, Result, Ok, Err, subst, arith, rules}
 use Rattle.queue_code.specs.Codes.{calls_of}
-use Rattle.executor_core.specs.Counts.{IsWorkerCount}
+use Rattle.executor_model.specs.Counts.{IsWorkerCount}
 use Rattle.sched_engine.specs.Running.{CountsWriter}
 use Rattle.sched_engine.specs.declared.report.Report.{Report}
 use Rattle.sched_engine.specs.declared.report.RunError.{RunError}

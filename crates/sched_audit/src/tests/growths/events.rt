@@ -1,7 +1,8 @@
 //! Events that are refused for want of memory, and given again.
 
 use super::{PLAN, TRACE};
-use executor_core::{Core, CoreError, Event, Line};
+use executor_core::{Core, CoreError};
+use executor_model::{Event, Line};
 use plan_compile::compile;
 use plan_read::read_plan;
 use refusing_allocator::Refusing;

@@ -1,6 +1,6 @@
 use Rattle.std.proofs.Common.{◌≡◌, ◌+◌, ◌≤◌, ℕ, List, [], ◌∷◌, Option, Some, None, IfNone, refl, ap, ◌∙◌, sym, subst, arith, rules}
-use Rattle.executor_core.specs.declared.Happening.{Happening}
-use Rattle.executor_core.specs.declared.Happening.TheVariants as h
+use Rattle.executor_model.specs.declared.Happening.{Happening}
+use Rattle.executor_model.specs.declared.Happening.TheVariants as h
 use Rattle.executor_core.specs.CoreView.{CoreView, room_of}
 use Rattle.executor_core.proofs.Parts.{all_happened, left_after, none_happened, part_from}
 use Rattle.sched_engine.specs.Pieces.{Output}

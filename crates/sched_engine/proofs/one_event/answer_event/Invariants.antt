@@ -1,6 +1,6 @@
 use Rattle.std.proofs.Common.{◌≡◌, ◌+◌, ◌-◌, ◌≤◌, ◌++◌, List, [], length}
 use Rattle.std.specs.Prelude.{vec_capacity}
-use Rattle.executor_core.specs.declared.Happening.{Happening}
+use Rattle.executor_model.specs.declared.Happening.{Happening}
 use Rattle.executor_core.specs.CoreView.{IsCounted, room_of}
 use Rattle.executor_core.proofs.Parts.{part_from}
 use Rattle.byte_ends.specs.Ends.{AllGood}

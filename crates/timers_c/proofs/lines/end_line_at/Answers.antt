@@ -1,6 +1,6 @@
 use Rattle.std.proofs.Common.{◌≡◌, ◌<◌, ◌^◌, true, Some, length, slice_index_or, refl, sym, ap, ◌∙◌, rules}
 use Rattle.std.proofs.lemmas.Option.{slice_get_read}
-use Rattle.executor_core.specs.declared.types.Line.{Line}
+use Rattle.executor_model.specs.declared.types.Line.{Line}
 use Rattle.timers_c.specs.Texts.{is_narrow}
 use Rattle.timers_c.proofs.Spelled.{line_there, narrow_there}
 use Rattle.timers_c.proofs.lines.end_line_at.Goals as goal

@@ -1,6 +1,6 @@
 use Rattle.std.proofs.Common.{◌≡◌, ℕ, ◌-◌, List, ◌++◌, length, take, string_bytes, ap, ◌∙◌, subst}
 use Rattle.std.specs.Prelude.{OnOk, flat_map}
-use Rattle.executor_core.specs.declared.types.Line.{Line}
+use Rattle.executor_model.specs.declared.types.Line.{Line}
 use Rattle.trace_text.specs.Spelling.{line_text}
 use Rattle.trace_svg.specs.Runs.{line_mark, telling_mark}
 use Rattle.trace_svg.specs.Stacks.{stack_label}

@@ -1,6 +1,6 @@
 use Rattle.std.proofs.Common.{take, sym, subst}
-use Rattle.executor_core.specs.declared.types.Answer.TheVariants as a
-use Rattle.executor_core.specs.declared.types.EventError.{EventError}
+use Rattle.executor_model.specs.declared.types.Answer.TheVariants as a
+use Rattle.executor_model.specs.declared.types.EventError.{EventError}
 use Rattle.trace_text.specs.Spelling.{answer_text}
 use Rattle.trace_text.specs.Writing.{Puts}
 use Rattle.trace_text.proofs.answer_text.put_error.Goals as goal

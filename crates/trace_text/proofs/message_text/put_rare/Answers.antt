@@ -1,7 +1,7 @@
 use Rattle.std.proofs.Common.{◌∙◌, take, sym, subst}
 use Rattle.std.proofs.lemmas.Bool.{false≢true}
-use Rattle.executor_core.specs.declared.said.Said.{Said}
-use Rattle.executor_core.specs.Said.{message_of}
+use Rattle.executor_model.specs.declared.said.Said.{Said}
+use Rattle.executor_model.specs.Said.{message_of}
 use Rattle.trace_text.specs.Spelling.{message_text}
 use Rattle.trace_text.specs.Writing.{Puts}
 use Rattle.trace_text.proofs.Messages.{common}

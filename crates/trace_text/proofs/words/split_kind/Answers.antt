@@ -1,4 +1,4 @@
-use Rattle.executor_core.specs.declared.Kind.TheVariants as kind
+use Rattle.executor_model.specs.declared.Kind.TheVariants as kind
 use Rattle.trace_text.proofs.words.split_kind.Goals as goal
 
 pub returns : goal.returns

@@ -1,7 +1,7 @@
 //! Lines of events with one byte changed, left out, doubled or put in: what they spell is told here by their words.
 use crate::event::read_event;
 use crate::front::{Front, MOST_EVENT_BYTES, front_event};
-use executor_core::Event;
+use executor_model::Event;
 use sched_time::Ending;
 use std::process::Abort;
 use std::test::Fail;

@@ -1,6 +1,6 @@
 //! Lines that tell of a run: started, or finished.
 use super::reads;
-use executor_core::{Answer, Outcome};
+use executor_model::{Answer, Outcome};
 
 #[test]
 fn reads_starts(rt: HostRuntime) {

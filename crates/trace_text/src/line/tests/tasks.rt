@@ -1,6 +1,6 @@
 //! Lines that tell of a task: accepted, refused, cancelled, ended.
 use super::{reads, reads_message};
-use executor_core::{Answer, CancelEffect, Kind, Message, Refusal};
+use executor_model::{Answer, CancelEffect, Kind, Message, Refusal};
 
 #[test]
 fn reads_submissions(rt: HostRuntime) {

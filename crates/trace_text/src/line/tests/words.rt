@@ -1,6 +1,6 @@
 //! Lines that tell of the executor: words alone, policies, and how far it is.
 use super::reads;
-use executor_core::{Answer, EventError};
+use executor_model::{Answer, EventError};
 use sched_time::Which;
 
 #[test]

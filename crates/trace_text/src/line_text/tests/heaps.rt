@@ -1,7 +1,7 @@
 //! How much memory a line takes, over heaps of fixed size.
 use crate::line_text::{LINE_ROOM, write_line};
 use crate::text_error::TextError;
-use executor_core::{Answer, Line, Message, Outcome};
+use executor_model::{Answer, Line, Message, Outcome};
 use linked_list_allocator::LocalHeap;
 use std::test::Fail;
 

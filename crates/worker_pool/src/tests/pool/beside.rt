@@ -9,7 +9,7 @@ use super::{
     text_of,
 };
 use crate::{Job, Named, Pool, PoolError, Shared};
-use executor_core::Line;
+use executor_model::Line;
 use queue_code::Code;
 use sched_time::Ending;
 use std::alloc::{AllocError, Global};

@@ -6,7 +6,7 @@ ghost use Rattle.task_word.specs.Views.{new_core};
 
 use super::{conforms, in_time};
 use crate::{Applied, Job, Named, Pool, PoolError, Shared};
-use executor_core::{Answer, Line, Message};
+use executor_model::{Answer, Line, Message};
 use plan_compile::compile;
 use plan_read::{Plan, read_plan};
 use queue_code::Code;

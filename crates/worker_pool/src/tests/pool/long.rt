@@ -1,7 +1,7 @@
 //! Runs that are long: of many clocks, and of a task that is run many times.
 use super::{RunNumber, is_said, play};
 use crate::Job;
-use executor_core::{Answer, Message};
+use executor_model::{Answer, Message};
 use sched_time::Ending;
 use std::sync::atomic::{AtomicU64, Ordering};
 use std::test::Fail;

@@ -1,7 +1,7 @@
 //! What a run comes to, which errors come, and what later runs are answered.
 use super::{Played, RunNumber, conforms, is_done, is_said, play, tasks_of, text_of};
 use crate::Job;
-use executor_core::{Answer, Line, Message};
+use executor_model::{Answer, Line, Message};
 use plan_read::read_plan;
 use result_cell::Verdict;
 use sched_time::Ending;

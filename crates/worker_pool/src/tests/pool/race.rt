@@ -6,7 +6,7 @@ ghost use Rattle.task_word.specs.Views.{new_core};
 
 use super::{MOST_LOADS, RunNumber, conforms, in_time, saw};
 use crate::{Book, Handle, Job, Named, Pool, PoolError, Shared};
-use executor_core::{Answer, CancelEffect, Line, Message, Outcome};
+use executor_model::{Answer, CancelEffect, Line, Message, Outcome};
 use plan_compile::compile;
 use plan_read::{Plan, read_plan};
 use queue_code::Code;

@@ -1,14 +1,15 @@
 use Rattle.std.proofs.Common.{◌≡◌, ◌<◌, ◌∙◌, ap, arith, length, refl, subst, sym, rules}
 use Rattle.std.specs.Prelude.{slice_index_or}
-use Rattle.executor_core.specs.declared.types.CancelEffect.TheVariants as f
+use Rattle.executor_model.specs.declared.types.CancelEffect.TheVariants as f
 use Rattle.queue_code.specs.Calls.{task_count, terms_of}
-use Rattle.executor_core.specs.State.{vacant}
-use Rattle.executor_core.specs.Tasks.{uncancelled_in}
-use Rattle.executor_core.specs.own.Tables.{cancelled_task}
+use Rattle.executor_model.specs.State.{vacant}
+use Rattle.executor_model.specs.Tasks.{uncancelled_in}
+use Rattle.executor_model.specs.own.Phases.{cancelled_task}
 use Rattle.executor_core.proofs.Counting.{cancelled_once}
 use Rattle.executor_core.specs.CoreView.{CoreView, state_of}
-use Rattle.executor_core.specs.own.Invariants.{IsSound}
-use Rattle.executor_core.proofs.Cancels.{cancelled_size, live_is_uncancelled, outside_steps, is_cancelled_so}
+use Rattle.executor_model.specs.own.Soundness.{IsSound}
+use Rattle.executor_core.proofs.Cancels.{cancelled_size, outside_steps, is_cancelled_so}
+use Rattle.executor_model.proofs.Effects.{live_is_uncancelled}
 use Rattle.executor_core.proofs.machine.Core.answer_cancel.Goals as goal
 
 pub returns-clause-step : goal.returns-clause-step

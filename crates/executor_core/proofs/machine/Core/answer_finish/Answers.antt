@@ -1,6 +1,6 @@
 use Rattle.std.proofs.Common.{◌≡◌, sym, ◌∙◌, subst}
 use Rattle.std.specs.Prelude.{slice_index_or}
-use Rattle.executor_core.specs.State.{vacant}
+use Rattle.executor_model.specs.State.{vacant}
 use Rattle.executor_core.specs.CoreView.{CoreView}
 use Rattle.executor_core.proofs.RunSteps.{Ran, of_view, work_within, finish_takes, finish_keeps}
 use Rattle.executor_core.proofs.Ending.{ran_as_told, runs_again}

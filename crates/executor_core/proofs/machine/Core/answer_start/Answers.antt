@@ -1,10 +1,10 @@
 use Rattle.std.proofs.Common.{◌≡◌, ◌<◌, length, None, ◌∙◌, sym, ap, arith, subst}
 use Rattle.std.specs.Prelude.{slice_index_or}
-use Rattle.executor_core.specs.declared.task.Task.{Task}
-use Rattle.executor_core.specs.declared.types.Happening.TheVariants as h
-use Rattle.executor_core.specs.CoreView.{CoreView, workers_of, state_of}
-use Rattle.executor_core.specs.Needs.{RunsBelowTaken, need_of}
-use Rattle.executor_core.proofs.Tables.{read_at, none_of}
+use Rattle.executor_model.specs.declared.task.Task.{Task}
+use Rattle.executor_model.specs.declared.types.Happening.TheVariants as h
+use Rattle.executor_core.specs.CoreView.{CoreView, workers_of, state_of, RunsBelowTaken}
+use Rattle.executor_model.specs.Needs.{need_of}
+use Rattle.executor_model.proofs.Tables.{read_at, none_of}
 use Rattle.executor_core.proofs.RunSteps.{Gets, of_view, start_idles, start_needs, start_takes, start_keeps}
 use Rattle.executor_core.proofs.machine.Core.answer_start.Goals as goal
 

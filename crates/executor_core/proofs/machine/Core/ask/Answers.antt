@@ -2,8 +2,9 @@ use Rattle.std.proofs.Common.{◌≡◌, ◌+◌, Some, ap, ◌∙◌, arith}
 use Rattle.std.specs.Prelude.{slice_get}
 use Rattle.std.proofs.lemmas.Bool.Decides.{nat_tests}
 use Rattle.queue_code.specs.declared.call.CodeCall.TheVariants as call
-use Rattle.executor_core.specs.Answers.{is_terminated}
-use Rattle.executor_core.proofs.Calling.{called_at, passed_kept}
+use Rattle.executor_model.specs.Answers.{is_terminated}
+use Rattle.executor_model.proofs.Called.{called_at}
+use Rattle.executor_core.proofs.Calling.{passed_kept}
 use Rattle.executor_core.proofs.Asking.{counts_within, ask_steps}
 use Rattle.executor_core.proofs.machine.Core.ask.Goals as goal
 

@@ -3,7 +3,7 @@ use Rattle.std.specs.Prelude.{slice_get, nat_le}
 use Rattle.std.proofs.lemmas.Bool.{le-leb}
 use Rattle.std.proofs.lemmas.Bool.Decides.{nat_tests}
 use Rattle.std.proofs.lemmas.Option.{slice_get_within}
-use Rattle.executor_core.proofs.Tables.{call_moment}
+use Rattle.executor_model.proofs.Tables.{call_moment}
 use Rattle.executor_core.proofs.Needing.{all_made}
 use Rattle.executor_core.proofs.Opens.{end_reached, tells_next, tells_none}
 use Rattle.executor_core.proofs.machine.Core.call_need.Goals as goal

@@ -1,12 +1,12 @@
 use Rattle.std.proofs.Common.{sym, ◌≡◌, length, [], ◌∷◌, ◌++◌, ap, ◌∙◌, arith, subst}
-use Rattle.executor_core.specs.declared.types.Happening.TheVariants as h
+use Rattle.executor_model.specs.declared.types.Happening.TheVariants as h
 use Rattle.queue_code.specs.Calls.{task_count}
-use Rattle.executor_core.specs.Flows.{answer_line}
-use Rattle.executor_core.specs.Answers.{Reply}
-use Rattle.executor_core.specs.State.{State}
+use Rattle.executor_model.specs.Flows.{answer_line}
+use Rattle.executor_model.specs.Answers.{Reply}
+use Rattle.executor_model.specs.State.{State}
 use Rattle.executor_core.specs.CoreView.{CoreView}
 use Rattle.executor_core.proofs.Events.{one_step}
-use Rattle.executor_core.proofs.Flowing.{step_continues}
+use Rattle.executor_core.proofs.Continuing.{step_continues}
 use Rattle.executor_core.proofs.Rooms.{room_stays}
 use Rattle.executor_core.proofs.RunNumbers.{cancel_counted}
 use Rattle.executor_core.proofs.machine.Core.cancel.Goals as goal

@@ -1,9 +1,9 @@
 use Rattle.std.proofs.Common.{◌≡◌, ◌<◌, length, Some, max, refl, ap, sym, ◌∙◌, arith, subst}
 use Rattle.std.specs.Prelude.{slice_get}
 use Rattle.queue_code.specs.declared.call.CodeCall.TheVariants as call
-use Rattle.executor_core.specs.Tasks.{uncancelled_in}
+use Rattle.executor_model.specs.Tasks.{uncancelled_in}
 use Rattle.executor_core.specs.CoreView.{CoreView, state_of}
-use Rattle.executor_core.specs.own.Invariants.{IsSound}
+use Rattle.executor_model.specs.own.Soundness.{IsSound}
 use Rattle.executor_core.proofs.Calling.{passed_kept}
 use Rattle.executor_core.proofs.Cancels.{names_a_task, plan_steps, is_cancelled_so, cancelled_fewer}
 use Rattle.executor_core.proofs.machine.Core.cancel_by_plan.Goals as goal

@@ -1,11 +1,11 @@
 use Rattle.std.proofs.Common.{◌≡◌, ◌≢◌, ◌<◌, length, ap, sym, ◌∙◌, subst, rules}
 use Rattle.std.specs.Prelude.{slice_index_or}
-use Rattle.executor_core.specs.declared.task.Task.{Task}
-use Rattle.executor_core.specs.declared.task.Stage.TheVariants as ph
-use Rattle.executor_core.specs.declared.types.CancelEffect.TheVariants as effect
+use Rattle.executor_model.specs.declared.task.Task.{Task}
+use Rattle.executor_model.specs.declared.task.Stage.TheVariants as ph
+use Rattle.executor_model.specs.declared.types.CancelEffect.TheVariants as effect
 use Rattle.queue_code.specs.Calls.{terms_of}
-use Rattle.executor_core.specs.Answers.{effect_on}
-use Rattle.executor_core.specs.State.{vacant, seen_task}
+use Rattle.executor_model.specs.Answers.{effect_on}
+use Rattle.executor_model.specs.State.{vacant, seen_task}
 use Rattle.executor_core.specs.CoreView.{CoreView}
 use Rattle.executor_core.proofs.Cancels.{staying_in, leaving_kept, staying_kept, yes_is}
 use Rattle.executor_core.proofs.machine.Core.cancel_live.Goals as goal

@@ -1,9 +1,9 @@
 use Rattle.std.proofs.Common.{◌<◌, length, ap, sym, ◌∙◌, arith}
 use Rattle.queue_code.specs.Calls.{terms_of}
-use Rattle.executor_core.specs.declared.task.Task.{Task}
-use Rattle.executor_core.specs.declared.types.CancelEffect.TheVariants as effect
-use Rattle.executor_core.specs.Answers.{effect_on}
-use Rattle.executor_core.specs.State.{seen_task}
+use Rattle.executor_model.specs.declared.task.Task.{Task}
+use Rattle.executor_model.specs.declared.types.CancelEffect.TheVariants as effect
+use Rattle.executor_model.specs.Answers.{effect_on}
+use Rattle.executor_model.specs.State.{seen_task}
 use Rattle.executor_core.proofs.Needing.{cancel_needs}
 use Rattle.executor_core.proofs.machine.Core.cancel_need.Goals as goal
 

@@ -1,9 +1,9 @@
 use Rattle.std.proofs.Common.{ap, sym, ◌∙◌, rules}
 use Rattle.std.specs.Prelude.{slice_index_or}
-use Rattle.executor_core.specs.declared.task.Task.{Task}
+use Rattle.executor_model.specs.declared.task.Task.{Task}
 use Rattle.queue_code.specs.Calls.{terms_of}
-use Rattle.executor_core.specs.Answers.{effect_on}
-use Rattle.executor_core.specs.State.{vacant, seen_task}
+use Rattle.executor_model.specs.Answers.{effect_on}
+use Rattle.executor_model.specs.State.{vacant, seen_task}
 use Rattle.executor_core.specs.CoreView.{CoreView}
 use Rattle.executor_core.proofs.machine.Core.cancel_task.Goals as goal
 

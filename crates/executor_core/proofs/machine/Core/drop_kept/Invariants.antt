@@ -1,6 +1,6 @@
 use Rattle.std.proofs.Common.{◌≡◌, map}
 use Rattle.delay_queue.specs.Queues.{entry_count}
-use Rattle.executor_core.specs.own.Invariants.{held}
+use Rattle.executor_model.specs.own.Phases.{held}
 use Rattle.executor_core.proofs.Quieting.{AreDropped}
 use Rattle.executor_core.proofs.machine.Core.drop_kept.Given as goal
 

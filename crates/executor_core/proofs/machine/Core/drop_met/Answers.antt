@@ -1,6 +1,6 @@
 use Rattle.std.proofs.Common.{◌≡◌, true, false, ap, ◌∙◌, sym, subst, rules}
 use Rattle.std.specs.Prelude.{slice_index_or, slice_set}
-use Rattle.executor_core.specs.State.{vacant}
+use Rattle.executor_model.specs.State.{vacant}
 use Rattle.executor_core.specs.CoreView.{CoreView}
 use Rattle.executor_core.specs.own.Invariants.{IsWellFormedCore}
 use Rattle.executor_core.specs.own.OwnSteps.{LeavesMet, is_met}

@@ -1,9 +1,9 @@
 use Rattle.std.proofs.Common.{◌≡◌, ◌<◌, length, true, arith, sym, subst}
 use Rattle.std.specs.Prelude.{slice_index_or}
-use Rattle.executor_core.specs.State.{vacant}
-use Rattle.executor_core.specs.own.Tables.{waits_with}
+use Rattle.executor_model.specs.State.{vacant}
+use Rattle.executor_model.specs.own.Phases.{waits_with}
 use Rattle.executor_core.specs.CoreView.{CoreView}
-use Rattle.executor_core.proofs.Sweeping.{few_tasks}
+use Rattle.executor_model.proofs.Swept.{few_tasks}
 use Rattle.executor_core.proofs.Quieting.{end_kept}
 use Rattle.executor_core.proofs.machine.Core.end.Goals as goal
 

@@ -1,12 +1,13 @@
 use Rattle.std.proofs.Common.{◌≡◌, ◌+◌, ◌<◌, length, true, refl, ap, sym, ◌∙◌, arith, subst}
 use Rattle.std.specs.Prelude.{slice_index_or, slice_set, vec_len, vec_capacity}
 use Rattle.std.proofs.lemmas.List.{length-set}
-use Rattle.executor_core.specs.Answers.{is_swept}
-use Rattle.executor_core.specs.State.{vacant, view_of_state}
-use Rattle.executor_core.specs.Tasks.{uncancelled_in}
+use Rattle.executor_model.specs.Answers.{is_swept}
+use Rattle.executor_model.specs.State.{vacant, view_of_state}
+use Rattle.executor_model.specs.Tasks.{uncancelled_in}
 use Rattle.executor_core.specs.CoreView.{CoreView, state_of}
 use Rattle.executor_core.specs.own.OwnSteps.{Ends}
-use Rattle.executor_core.proofs.Sweeping.{sweeps_at, swept_waits_in, waits_uncancelled, uncancelled_less, ends_none, ends_more, ends_not}
+use Rattle.executor_core.proofs.Sweeping.{sweeps_at, swept_waits_in, uncancelled_less, ends_none, ends_more, ends_not}
+use Rattle.executor_model.proofs.Swept.{waits_uncancelled}
 use Rattle.executor_core.proofs.machine.Core.end_tasks.Goals as goal
 use Rattle.executor_core.proofs.machine.Core.end_tasks.Goals.{then-ends_under, else-ends_under}
 

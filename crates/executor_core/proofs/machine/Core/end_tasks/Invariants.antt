@@ -1,6 +1,6 @@
 use Rattle.std.proofs.Common.{◌≡◌, ◌+◌, ◌-◌, ◌≤◌, length}
 use Rattle.std.specs.Prelude.{vec_len, vec_capacity}
-use Rattle.executor_core.specs.Tasks.{uncancelled_in}
+use Rattle.executor_model.specs.Tasks.{uncancelled_in}
 use Rattle.executor_core.specs.own.OwnSteps.{Ends}
 use Rattle.executor_core.proofs.machine.Core.end_tasks.Given as goal
 

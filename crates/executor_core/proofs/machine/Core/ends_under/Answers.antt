@@ -1,9 +1,9 @@
 use Rattle.std.proofs.Common.{◌&&◌, false, ap, sym, ◌∙◌, arith}
 use Rattle.std.proofs.lemmas.List.{get_or_past}
-use Rattle.executor_core.specs.declared.task.Task.{Task}
-use Rattle.executor_core.specs.Answers.{is_ended_by}
-use Rattle.executor_core.specs.State.{vacant}
-use Rattle.executor_core.specs.own.Tables.{waits_with}
+use Rattle.executor_model.specs.declared.task.Task.{Task}
+use Rattle.executor_model.specs.Answers.{is_ended_by}
+use Rattle.executor_model.specs.State.{vacant}
+use Rattle.executor_model.specs.own.Phases.{waits_with}
 use Rattle.executor_core.proofs.Needing.{tests_so, ends_so}
 use Rattle.executor_core.proofs.machine.Core.ends_under.Goals as goal
 

@@ -1,13 +1,13 @@
 use Rattle.std.proofs.Common.{◌≡◌, ◌+◌, ◌≤◌, [], ◌∷◌, length, refl, sym, ap, ◌∙◌, arith, rules, subst}
 use Rattle.std.specs.Prelude.{vec_len, vec_capacity}
 use Rattle.queue_code.specs.Calls.{task_count}
-use Rattle.executor_core.specs.declared.types.Happening.{Happening}
-use Rattle.executor_core.specs.declared.types.Happening.TheVariants as h
-use Rattle.executor_core.specs.Flows.{happening_of}
+use Rattle.executor_model.specs.declared.types.Happening.{Happening}
+use Rattle.executor_model.specs.declared.types.Happening.TheVariants as h
+use Rattle.executor_model.specs.Flows.{happening_of}
 use Rattle.executor_core.specs.CoreView.{CoreView, Steps, room_of}
-use Rattle.executor_core.proofs.Errors.{error_only_counts}
+use Rattle.executor_core.proofs.ErrorSteps.{error_only_counts}
 use Rattle.executor_core.proofs.Events.{counted_once, event_continues, uncounted}
-use Rattle.executor_core.proofs.Flowing.{no_steps, steps_then}
+use Rattle.executor_core.proofs.Continuing.{no_steps, steps_then}
 use Rattle.executor_core.proofs.Parts.{all_happened, left_after, none_happened, part_from}
 use Rattle.executor_core.proofs.machine.Core.event.Goals as goal
 

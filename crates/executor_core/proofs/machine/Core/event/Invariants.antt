@@ -1,6 +1,6 @@
 use Rattle.std.proofs.Common.{◌≡◌, ◌+◌, ◌-◌, ◌≤◌, ◌++◌, List, length}
 use Rattle.std.specs.Prelude.{vec_len, vec_capacity}
-use Rattle.executor_core.specs.declared.types.Happening.{Happening}
+use Rattle.executor_model.specs.declared.types.Happening.{Happening}
 use Rattle.executor_core.specs.CoreView.{IsCounted, Steps, room_of}
 use Rattle.executor_core.proofs.Parts.{part_from}
 use Rattle.executor_core.proofs.machine.Core.event.Given as goal

@@ -1,10 +1,10 @@
 use Rattle.std.proofs.Common.{◌≡◌, length, [], ◌∷◌, ◌++◌, ap, ◌∙◌, arith, subst}
-use Rattle.executor_core.specs.declared.types.Happening.TheVariants as h
+use Rattle.executor_model.specs.declared.types.Happening.TheVariants as h
 use Rattle.queue_code.specs.Calls.{task_count}
-use Rattle.executor_core.specs.Flows.{answer_line}
+use Rattle.executor_model.specs.Flows.{answer_line}
 use Rattle.executor_core.specs.CoreView.{CoreView}
 use Rattle.executor_core.proofs.Events.{one_step}
-use Rattle.executor_core.proofs.Flowing.{step_continues}
+use Rattle.executor_core.proofs.Continuing.{step_continues}
 use Rattle.executor_core.proofs.Rooms.{room_stays}
 use Rattle.executor_core.proofs.machine.Core.finish_as.Goals as goal
 

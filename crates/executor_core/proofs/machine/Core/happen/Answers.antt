@@ -1,11 +1,11 @@
 use Rattle.std.proofs.Common.{◌≡◌, ℕ, sym, ap, subst, ◌∙◌}
-use Rattle.executor_core.specs.declared.types.Happening.{Happening}
-use Rattle.executor_core.specs.declared.types.Happening.TheVariants as h
-use Rattle.executor_core.specs.declared.types.Answer.TheVariants as a
-use Rattle.executor_core.specs.declared.types.CancelEffect.TheVariants as f
-use Rattle.executor_core.specs.State.{reply_of}
+use Rattle.executor_model.specs.declared.types.Happening.{Happening}
+use Rattle.executor_model.specs.declared.types.Happening.TheVariants as h
+use Rattle.executor_model.specs.declared.types.Answer.TheVariants as a
+use Rattle.executor_model.specs.declared.types.CancelEffect.TheVariants as f
+use Rattle.executor_model.specs.State.{reply_of}
 use Rattle.executor_core.specs.CoreView.{workers_of, state_of}
-use Rattle.executor_core.proofs.Flowing.{step_continues}
+use Rattle.executor_core.proofs.Continuing.{step_continues}
 use Rattle.executor_core.proofs.machine.Core.happen.Goals as goal
 
 one_task : (k task : ℕ) → h.Cancel k ≡ h.Cancel task → k ≡ task

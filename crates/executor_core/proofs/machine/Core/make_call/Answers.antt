@@ -1,11 +1,11 @@
 use Rattle.std.proofs.Common.{◌≡◌, [], ◌∷◌, ◌++◌, sym, ap, ◌∙◌, subst}
-use Rattle.executor_core.specs.declared.types.Happening.TheVariants as happening
-use Rattle.executor_core.specs.declared.types.Answer.{Answer}
-use Rattle.executor_core.specs.Flows.{answer_line}
+use Rattle.executor_model.specs.declared.types.Happening.TheVariants as happening
+use Rattle.executor_model.specs.declared.types.Answer.{Answer}
+use Rattle.executor_model.specs.Flows.{answer_line}
 use Rattle.executor_core.specs.CoreView.{CoreView}
 use Rattle.executor_core.specs.own.OwnSteps.{Takes}
 use Rattle.executor_core.proofs.Events.{one_step}
-use Rattle.executor_core.proofs.Flowing.{step_continues}
+use Rattle.executor_core.proofs.Continuing.{step_continues}
 use Rattle.executor_core.proofs.RunNumbers.{call_counted}
 use Rattle.executor_core.proofs.machine.Core.make_call.Goals as goal
 use Rattle.executor_core.proofs.machine.Core.make_call.Goals.{in-Submit, in-Illegal, in-Cancel, in-Ask}

@@ -4,7 +4,8 @@ use Rattle.std.proofs.lemmas.Bool.Decides.{nat_tests}
 use Rattle.delay_queue.specs.Queues.{entry_count}
 use Rattle.executor_core.specs.own.Tables.{periodic_in}
 use Rattle.executor_core.specs.CoreView.{CoreView}
-use Rattle.executor_core.proofs.Sweeping.{sweeps_at, none_swept, none_queued, not_false}
+use Rattle.executor_core.proofs.Sweeping.{sweeps_at, none_swept, none_queued}
+use Rattle.executor_model.proofs.Swept.{not_false}
 use Rattle.executor_core.proofs.machine.Core.may_end.Goals as goal
 use Rattle.executor_core.proofs.machine.Core.may_end.Goals.{then-not-self, else-not-self}
 

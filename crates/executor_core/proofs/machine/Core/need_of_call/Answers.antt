@@ -3,8 +3,8 @@ use Rattle.std.specs.Prelude.{slice_get, slice_index_or}
 use Rattle.queue_code.specs.declared.call.CodeCall.{CodeCall}
 use Rattle.queue_code.specs.declared.call.CodeCall.TheVariants as call
 use Rattle.queue_code.specs.Calls.{terms_of}
-use Rattle.executor_core.specs.Answers.{effect_on}
-use Rattle.executor_core.specs.State.{seen_task, vacant}
+use Rattle.executor_model.specs.Answers.{effect_on}
+use Rattle.executor_model.specs.State.{seen_task, vacant}
 use Rattle.executor_core.proofs.Cancels.{names_a_task}
 use Rattle.executor_core.proofs.Needing.{next_moves, cancel_needs}
 use Rattle.executor_core.proofs.machine.Core.need_of_call.Goals as goal

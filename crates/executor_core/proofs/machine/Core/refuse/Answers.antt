@@ -1,8 +1,9 @@
 use Rattle.std.proofs.Common.{◌≡◌, Some, refl, ap, ◌∙◌}
 use Rattle.std.specs.Prelude.{slice_get}
 use Rattle.queue_code.specs.declared.call.CodeCall.TheVariants as call
-use Rattle.executor_core.specs.declared.types.Refusal.TheVariants as refusal
-use Rattle.executor_core.proofs.Calling.{called_at, passed_kept}
+use Rattle.executor_model.specs.declared.types.Refusal.TheVariants as refusal
+use Rattle.executor_model.proofs.Called.{called_at}
+use Rattle.executor_core.proofs.Calling.{passed_kept}
 use Rattle.executor_core.proofs.Submits.{refuse_steps}
 use Rattle.executor_core.proofs.machine.Core.refuse.Goals as goal
 

@@ -1,6 +1,6 @@
 use Rattle.std.proofs.Common.{arith}
 use Rattle.executor_core.proofs.Counting.{uncancelled_le}
-use Rattle.executor_core.proofs.Flowing.{how_many-le}
+use Rattle.executor_model.proofs.Flowing.{how_many-le}
 use Rattle.queue_code.specs.Calls.{Planned, submits_task}
 use Rattle.executor_core.proofs.machine.Core.room.Goals as goal
 

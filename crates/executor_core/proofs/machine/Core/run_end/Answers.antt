@@ -1,11 +1,11 @@
 use Rattle.std.proofs.Common.{◌≡◌, ◌<◌, length, None, Some, ap, refl, ◌∙◌, sym, arith, subst}
 use Rattle.std.specs.Prelude.{slice_index_or}
-use Rattle.executor_core.specs.Answers.{outcome_in, stops_periodic}
-use Rattle.executor_core.specs.State.{vacant, due_past, reply_of}
-use Rattle.executor_core.specs.declared.types.Happening.TheVariants as h
+use Rattle.executor_model.specs.Answers.{outcome_in, stops_periodic}
+use Rattle.executor_model.specs.State.{vacant, due_past, reply_of}
+use Rattle.executor_model.specs.declared.types.Happening.TheVariants as h
 use Rattle.executor_core.specs.Foresight.{run_end, end_of_work}
 use Rattle.executor_core.specs.CoreView.{CoreView, workers_of, state_of}
-use Rattle.executor_core.proofs.Tables.{read_at}
+use Rattle.executor_model.proofs.Tables.{read_at}
 use Rattle.executor_core.proofs.RunSteps.{Ran, work_within}
 use Rattle.executor_core.proofs.Ending.{ran_as_told, finish_answers}
 use Rattle.executor_core.proofs.Needing.{finished_needs}

@@ -1,7 +1,8 @@
 use Rattle.std.proofs.Common.{◌≡◌, Some, refl, ap, sym, ◌∙◌, ◌++◌, ◌∷◌, []}
 use Rattle.std.specs.Prelude.{slice_get, vec_len}
 use Rattle.queue_code.specs.declared.call.CodeCall.TheVariants as call
-use Rattle.executor_core.proofs.Calling.{called_at, made_kept}
+use Rattle.executor_model.proofs.Called.{called_at}
+use Rattle.executor_core.proofs.Calling.{made_kept}
 use Rattle.executor_core.proofs.SweepSteps.{policy_sweep_steps, policy_steps, sweep_room, pass_room}
 use Rattle.executor_core.proofs.machine.Core.set_policy.Goals as goal
 

@@ -1,7 +1,8 @@
 use Rattle.std.proofs.Common.{◌≡◌, true, Some, refl, ap, ◌∙◌, ◌++◌, ◌∷◌, []}
 use Rattle.std.specs.Prelude.{slice_get, vec_len}
 use Rattle.queue_code.specs.declared.call.CodeCall.TheVariants as call
-use Rattle.executor_core.proofs.Calling.{called_at, made_kept}
+use Rattle.executor_model.proofs.Called.{called_at}
+use Rattle.executor_core.proofs.Calling.{made_kept}
 use Rattle.executor_core.proofs.SweepSteps.{stop_steps, sweep_room}
 use Rattle.executor_core.proofs.machine.Core.shut_down_now.Goals as goal
 

@@ -1,6 +1,6 @@
 use Rattle.std.proofs.Common.{◌≡◌, ◌<◌, length, None, ◌∙◌, sym, arith}
 use Rattle.std.specs.Prelude.{slice_index_or}
-use Rattle.executor_core.proofs.Tables.{read_at, none_of}
+use Rattle.executor_model.proofs.Tables.{read_at, none_of}
 use Rattle.executor_core.proofs.Needing.{started_needs, idle_needs}
 use Rattle.executor_core.proofs.machine.Core.start_need.Goals as goal
 

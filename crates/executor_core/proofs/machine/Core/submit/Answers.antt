@@ -3,10 +3,11 @@ use Rattle.std.specs.Prelude.{slice_get, slice_index_or}
 use Rattle.std.proofs.lemmas.List.{length-map}
 use Rattle.queue_code.specs.declared.call.CodeCall.TheVariants as call
 use Rattle.executor_core.specs.CoreView.{CoreView}
-use Rattle.executor_core.specs.own.Invariants.{queued}
-use Rattle.executor_core.proofs.Tables.{submission, queued_at}
-use Rattle.executor_core.proofs.Calling.{called_at, passed_kept}
-use Rattle.executor_core.specs.declared.types.Refusal.TheVariants as refusal
+use Rattle.executor_model.specs.own.Phases.{queued}
+use Rattle.executor_model.proofs.Tables.{submission, queued_at}
+use Rattle.executor_model.proofs.Called.{called_at}
+use Rattle.executor_core.proofs.Calling.{passed_kept}
+use Rattle.executor_model.specs.declared.types.Refusal.TheVariants as refusal
 use Rattle.executor_core.proofs.Submits.{refuse_steps, shut_reply, submit_keeps_in, submit_steps_in, submit_fewer}
 use Rattle.executor_core.proofs.machine.Core.submit.Goals as goal
 

@@ -1,5 +1,5 @@
 use Rattle.std.proofs.Common.{◌≡◌, true, rules}
-use Rattle.executor_core.specs.Histories.{is_ended}
+use Rattle.executor_model.specs.Histories.{is_ended}
 use Rattle.executor_core.proofs.WorkerSteps.{goes_not_on}
 use Rattle.executor_core.proofs.machine.workers.end_run.Goals as goal
 

@@ -1,6 +1,6 @@
 use Rattle.std.proofs.Common.{true, ap, arith, refl, sym, ◌∙◌}
 use Rattle.std.specs.Prelude.{slice_set}
-use Rattle.executor_core.specs.declared.task.Task.{Task}
+use Rattle.executor_model.specs.declared.task.Task.{Task}
 use Rattle.executor_core.proofs.Pairs.{is_in, cancel_sets}
 use Rattle.std.proofs.lemmas.List.{length-set}
 use Rattle.executor_core.proofs.Counting.{tables_count, tables_recounted}

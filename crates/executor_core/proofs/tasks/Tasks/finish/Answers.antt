@@ -1,10 +1,11 @@
 use Rattle.std.proofs.Common.{◌≡◌, ◌+◌, ◌-◌, ap, arith, refl, subst, sym, ◌∙◌}
-use Rattle.executor_core.specs.own.Tables.{tasks_in_tables, is_again, is_running_phase, one, IsRecount}
+use Rattle.executor_core.specs.own.Tables.{tasks_in_tables, is_again, one, IsRecount}
+use Rattle.executor_model.specs.own.Phases.{is_running_phase}
 use Rattle.executor_core.proofs.Pairs.{is_in, word_runs, word_marked, word_run, unmarked, ended_done, ended_failed, ended_again, ended_over, both_sets, detail_kept, over_of, end_over, word_there, detail_past}
 use Rattle.executor_core.proofs.tasks.Tasks.finish.Goals as goal
 use Rattle.std.proofs.lemmas.List.{length-set}
 use Rattle.std.specs.Prelude.{slice_index_or, slice_set}
-use Rattle.executor_core.specs.State.{vacant, end_task}
+use Rattle.executor_model.specs.State.{vacant, end_task}
 use Rattle.executor_core.proofs.Counting.{tables_count, tables_recounted, ended_recount}
 use Rattle.executor_core.proofs.tasks.Tasks.finish.Goals.{in-Done, in-Failed, in-Again, in-Dropped}
 

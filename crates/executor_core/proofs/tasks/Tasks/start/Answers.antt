@@ -1,8 +1,9 @@
 use Rattle.std.proofs.Common.{◌≡◌, ◌+◌, ◌-◌, ap, arith, refl, subst, sym, ◌∙◌}
 use Rattle.std.specs.Prelude.{slice_index_or}
-use Rattle.executor_core.specs.State.{vacant}
-use Rattle.executor_core.specs.own.Tables.{is_periodic, one, IsRecount}
-use Rattle.executor_core.specs.declared.task.Stage.TheVariants as ph
+use Rattle.executor_model.specs.State.{vacant}
+use Rattle.executor_model.specs.own.Phases.{is_periodic}
+use Rattle.executor_core.specs.own.Tables.{one, IsRecount}
+use Rattle.executor_model.specs.declared.task.Stage.TheVariants as ph
 use Rattle.executor_core.proofs.Pairs.{is_in, word_waits, word_marked, unmarked, start_sets, periodic_so}
 use Rattle.std.proofs.lemmas.List.{length-set}
 use Rattle.executor_core.proofs.Counting.{tables_count, tables_recounted, started_recount}

@@ -1,7 +1,7 @@
 use Rattle.std.proofs.Common.{ap, arith, sym, ◌∙◌}
 use Rattle.std.specs.Prelude.{slice_set}
-use Rattle.executor_core.specs.declared.task.Stage.TheVariants as ph
-use Rattle.executor_core.specs.declared.task.Task.{Task}
+use Rattle.executor_model.specs.declared.task.Stage.TheVariants as ph
+use Rattle.executor_model.specs.declared.task.Task.{Task}
 use Rattle.executor_core.proofs.Pairs.{is_in, word_vacant, submit_sets}
 use Rattle.std.proofs.lemmas.List.{length-set}
 use Rattle.executor_core.proofs.Counting.{tables_count, tables_recounted}

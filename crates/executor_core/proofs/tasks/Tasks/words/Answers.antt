@@ -1,5 +1,5 @@
 use Rattle.std.proofs.Common.{map, ap, sym, ◌∙◌}
-use Rattle.executor_core.specs.Tasks.{word_of_task}
+use Rattle.executor_model.specs.Tasks.{word_of_task}
 use Rattle.executor_core.proofs.Pairs.{words_of}
 use Rattle.executor_core.proofs.tasks.Tasks.words.Goals as goal
 

@@ -1,8 +1,8 @@
 -- Room is made, and a task comes into its slot.
 use Rattle.std.proofs.Common.{◌+◌, ◌∙◌, ℕ, vec_capacity, refl, ap, subst, arith}
 use Rattle.queue_code.specs.declared.call.CodeCall.TheVariants as call
-use Rattle.executor_core.specs.declared.types.Answer.TheVariants as answer
-use Rattle.executor_core.specs.Answers.{bare, kind_of}
+use Rattle.executor_model.specs.declared.types.Answer.TheVariants as answer
+use Rattle.executor_model.specs.Answers.{bare, kind_of}
 use Rattle.live_core.specs.Lives.{LiveView, Calls, StaysQuiet}
 use Rattle.live_core.proofs.Living.{live_call}
 use Rattle.live_core.proofs.Steps.{may_submit, accepts_there}

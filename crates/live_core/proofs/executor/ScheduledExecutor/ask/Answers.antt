@@ -3,8 +3,8 @@ use Rattle.std.proofs.Common.{◌∙◌, vec_capacity, refl, sym, ap, subst}
 use Rattle.std.specs.Prelude.{is_some}
 use Rattle.queue_code.specs.Calls.{how_many}
 use Rattle.queue_code.specs.declared.call.CodeCall.TheVariants as call
-use Rattle.executor_core.specs.declared.types.Answer.TheVariants as answer
-use Rattle.executor_core.specs.Answers.{bare, is_terminated}
+use Rattle.executor_model.specs.declared.types.Answer.TheVariants as answer
+use Rattle.executor_model.specs.Answers.{bare, is_terminated}
 use Rattle.task_table.specs.Firsts.{queue_in}
 use Rattle.task_table.specs.Tables.{TableView, workers_of}
 use Rattle.live_core.specs.Lives.{LiveView, StaysQuiet}

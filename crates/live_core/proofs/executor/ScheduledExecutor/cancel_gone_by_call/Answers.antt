@@ -1,8 +1,8 @@
 -- Its history tells what a cancel does to it, and the call moves the moment.
 use Rattle.std.proofs.Common.{refl, ap, ◌∙◌, sym, subst, vec_capacity}
 use Rattle.queue_code.specs.declared.call.CodeCall.TheVariants as call
-use Rattle.executor_core.specs.declared.types.Answer.TheVariants as answer
-use Rattle.executor_core.specs.Answers.{bare}
+use Rattle.executor_model.specs.declared.types.Answer.TheVariants as answer
+use Rattle.executor_model.specs.Answers.{bare}
 use Rattle.task_table.specs.Tables.{TableView, workers_of}
 use Rattle.live_core.specs.Lives.{LiveView, Calls, StaysQuiet}
 use Rattle.live_core.specs.own.Formed.{AreNoted, AreAlive}

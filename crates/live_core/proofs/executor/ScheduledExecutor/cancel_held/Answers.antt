@@ -1,8 +1,8 @@
 -- The table takes the step, and the slot is emptied where its task is over.
 use Rattle.std.proofs.Common.{◌∙◌, ◌<◌, Some, refl, sym, subst, vec_capacity}
-use Rattle.executor_core.specs.declared.types.Happening.TheVariants as happening
-use Rattle.executor_core.specs.declared.types.Answer.TheVariants as answer
-use Rattle.executor_core.specs.Answers.{bare}
+use Rattle.executor_model.specs.declared.types.Happening.TheVariants as happening
+use Rattle.executor_model.specs.declared.types.Answer.TheVariants as answer
+use Rattle.executor_model.specs.Answers.{bare}
 use Rattle.live_core.specs.Lives.{LiveView, Happens, StaysQuiet}
 use Rattle.live_core.specs.own.Places.{IsSlotOf}
 use Rattle.live_core.proofs.Cancelled.{outside_held, unshut_held}

@@ -1,8 +1,8 @@
 -- The table takes the step, and the slot is emptied where its task is over.
 use Rattle.std.proofs.Common.{◌∙◌, Some, refl, sym, subst, vec_capacity}
 use Rattle.queue_code.specs.declared.call.CodeCall.TheVariants as call
-use Rattle.executor_core.specs.declared.types.Answer.TheVariants as answer
-use Rattle.executor_core.specs.Answers.{bare}
+use Rattle.executor_model.specs.declared.types.Answer.TheVariants as answer
+use Rattle.executor_model.specs.Answers.{bare}
 use Rattle.live_core.specs.Lives.{LiveView, Calls, StaysQuiet}
 use Rattle.live_core.specs.own.Places.{IsSlotOf}
 use Rattle.live_core.proofs.Cancelled.{may_cancel, by_call_held, unshut_held}

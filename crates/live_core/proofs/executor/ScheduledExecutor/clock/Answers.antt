@@ -1,9 +1,9 @@
 -- The clock takes its step, or is answered by an error.
 use Rattle.std.proofs.Common.{◌≡◌, ◌+◌, true, vec_capacity, refl, ap, subst}
 use Rattle.std.specs.Prelude.{is_ok}
-use Rattle.executor_core.specs.Answers.{bare, is_accepted}
-use Rattle.executor_core.specs.declared.types.Answer.TheVariants as a
-use Rattle.executor_core.specs.declared.types.Happening.TheVariants as h
+use Rattle.executor_model.specs.Answers.{bare, is_accepted}
+use Rattle.executor_model.specs.declared.types.Answer.TheVariants as a
+use Rattle.executor_model.specs.declared.types.Happening.TheVariants as h
 use Rattle.task_table.specs.Runs.{IsClockError}
 use Rattle.live_core.specs.Lives.{LiveView, Happens}
 use Rattle.live_core.specs.Events.{Fails}

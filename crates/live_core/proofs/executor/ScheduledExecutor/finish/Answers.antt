@@ -1,7 +1,7 @@
 -- The finish takes its step, or is answered by an error.
 use Rattle.std.proofs.Common.{◌<◌, vec_capacity, refl, subst}
 use Rattle.std.specs.Prelude.{IfOk, IfErr}
-use Rattle.executor_core.specs.declared.types.Happening.TheVariants as h
+use Rattle.executor_model.specs.declared.types.Happening.TheVariants as h
 use Rattle.task_table.specs.Runs.{IsFinishError}
 use Rattle.live_core.specs.Lives.{LiveView, Happens, Stays}
 use Rattle.live_core.specs.Events.{Fails, finish_reply}

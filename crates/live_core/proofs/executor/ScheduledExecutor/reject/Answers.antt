@@ -3,9 +3,9 @@ use Rattle.std.proofs.Common.{◌≡◌, ◌+◌, ◌∙◌, true, vec_capacity,
 use Rattle.std.proofs.lemmas.Bool.{false≢true}
 use Rattle.sched_time.specs.declared.timing.Timing.TheVariants as t
 use Rattle.queue_code.specs.declared.call.CodeCall.TheVariants as call
-use Rattle.executor_core.specs.declared.types.Answer.TheVariants as answer
-use Rattle.executor_core.specs.declared.types.Refusal.TheVariants as refusal
-use Rattle.executor_core.specs.Answers.{bare}
+use Rattle.executor_model.specs.declared.types.Answer.TheVariants as answer
+use Rattle.executor_model.specs.declared.types.Refusal.TheVariants as refusal
+use Rattle.executor_model.specs.Answers.{bare}
 use Rattle.task_table.specs.Seats.{IsNew}
 use Rattle.task_table.specs.Tables.{TableView, workers_of}
 use Rattle.live_core.specs.Lives.{LiveView, Calls, StaysQuiet}

@@ -3,7 +3,7 @@ use Rattle.std.proofs.Common.{◌≡◌, ◌∙◌, ℕ, true, false, vec_capaci
 use Rattle.std.specs.Prelude.{not}
 use Rattle.std.proofs.lemmas.Bool.{false≢true}
 use Rattle.queue_code.specs.declared.call.CodeCall.TheVariants as call
-use Rattle.executor_core.specs.Histories.{is_submit}
+use Rattle.executor_model.specs.Histories.{is_submit}
 use Rattle.live_core.specs.Lives.{LiveView, Stays}
 use Rattle.live_core.specs.Said.{ending}
 use Rattle.live_core.specs.Shutting.{shutdown_answer}

@@ -2,7 +2,7 @@
 use Rattle.std.proofs.Common.{◌∙◌, vec_capacity, refl, sym, subst}
 use Rattle.std.proofs.lemmas.Bool.{false≢true}
 use Rattle.queue_code.specs.declared.call.CodeCall.TheVariants as call
-use Rattle.executor_core.specs.declared.types.Answer.TheVariants as answer
+use Rattle.executor_model.specs.declared.types.Answer.TheVariants as answer
 use Rattle.live_core.specs.Lives.{LiveView, Stays}
 use Rattle.live_core.specs.Said.{ending}
 use Rattle.live_core.proofs.Called.{SubmitsNone, calls_other, live_other}

@@ -1,6 +1,6 @@
 -- The start takes its step, or is answered by an error.
 use Rattle.std.proofs.Common.{◌≡◌, ◌<◌, IfSome, vec_capacity, refl, subst}
-use Rattle.executor_core.specs.declared.types.Happening.TheVariants as h
+use Rattle.executor_model.specs.declared.types.Happening.TheVariants as h
 use Rattle.task_table.specs.Runs.{IsFree, IsFull, IsStartError}
 use Rattle.task_table.proofs.Clocks.{start_refused}
 use Rattle.live_core.specs.Lives.{LiveView, Happens, Stays}

@@ -16,8 +16,8 @@ use Rattle.std.specs.contracts.impls.GlobalAllocator.TheImpl.{ghosts}
 use Rattle.std_alloc.proofs.SendSync.{quiet, lies}
 use Rattle.std_alloc.proofs.vec.Vec.TheSendSync.{the_send as list_sends}
 use Rattle.executor_core.proofs.machine.Core.TheSendSync.{the_send as core_sends}
-use Rattle.executor_core.proofs.types.Line.TheSendSync.{the_send as line_sends}
-use Rattle.executor_core.specs.contracts.types.Line as line_type
+use Rattle.executor_model.proofs.types.Line.TheSendSync.{the_send as line_sends}
+use Rattle.executor_model.specs.contracts.types.Line as line_type
 use Rattle.sched_c.specs.Seen.{Seen}
 use Rattle.sched_c.specs.contracts.session.Session.TheInside as inside
 use Rattle.sched_c.specs.Slots.{SessionRow, holds_session}

@@ -1,5 +1,5 @@
 use Rattle.std.proofs.Common.{◌≡◌, ◌++◌, take, drop, subst, rules}
-use Rattle.executor_core.specs.declared.Line.{Line}
+use Rattle.executor_model.specs.declared.Line.{Line}
 use Rattle.trace_text.specs.Spelling.{line_text, lines_text}
 use Rattle.sched_engine.specs.Pieces.{Output}
 use Rattle.sched_engine.proofs.Giving.{gives_front, gives_line, lines_split}

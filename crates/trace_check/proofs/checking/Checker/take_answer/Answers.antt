@@ -1,7 +1,7 @@
 use Rattle.std.proofs.Common.{sym, ap, ◌∙◌, subst, slice_index_or, false}
 use Rattle.std.specs.Prelude.{IsTrue}
 use Rattle.std.proofs.lemmas.Bool.{false≢true}
-use Rattle.executor_core.specs.Said.{message_of}
+use Rattle.executor_model.specs.Said.{message_of}
 use Rattle.executor_core.specs.CoreView.{workers_of, state_of}
 use Rattle.trace_check.specs.Representatives.{busy_after}
 use Rattle.trace_check.specs.own.Standing.{representative_of_message}

@@ -3,7 +3,7 @@ use Rattle.std.specs.Prelude.{IsSome, slice_index_or}
 use Rattle.once_cell.specs.declared.race.note.Note.{Note}
 use Rattle.result_cell.specs.declared.verdict.Verdict.{Verdict}
 use Rattle.queue_code.specs.Calls.{task_count}
-use Rattle.executor_core.specs.declared.types.Answer.{Answer}
+use Rattle.executor_model.specs.declared.types.Answer.{Answer}
 use Rattle.worker_pool.specs.declared.applied.Applied.{Applied}
 use Rattle.worker_pool.specs.Books.{BookView, ending_in}
 use Rattle.worker_pool.specs.Applies.{Applies, Tells, work_started}

@@ -4,8 +4,8 @@ use Rattle.once_cell.specs.declared.race.note.Note.{Note}
 use Rattle.result_cell.specs.declared.verdict.Verdict.{Verdict}
 use Rattle.queue_code.specs.Calls.{task_count}
 use Rattle.queue_code.specs.Codes.{calls_of}
-use Rattle.executor_core.specs.declared.types.Happening.{Happening}
-use Rattle.executor_core.specs.declared.types.Line.{Line}
+use Rattle.executor_model.specs.declared.types.Happening.{Happening}
+use Rattle.executor_model.specs.declared.types.Line.{Line}
 use Rattle.worker_pool.specs.Books.{IsBook}
 use Rattle.worker_pool.proofs.Booking.{opening_book}
 use Rattle.worker_pool.proofs.book.Book.new.Goals as goal

@@ -1,6 +1,6 @@
 use Rattle.std.proofs.Common.{◌≡◌, ◌+◌, ◌-◌, ◌∙◌, List, sym, ap, subst, length, arith}
 use Rattle.queue_code.specs.Calls.{task_count}
-use Rattle.executor_core.specs.Histories.{HistoryEntry}
+use Rattle.executor_model.specs.Histories.{HistoryEntry}
 use Rattle.worker_pool.specs.Books.{BookView}
 use Rattle.worker_pool.specs.Applies.{OnlyMarks, OnlyNotes, TellsUpTo}
 use Rattle.worker_pool.specs.own.Steps.{OnlyNoted, OnlyOwnGrows}

@@ -1,7 +1,7 @@
 use Rattle.std.proofs.Common.{◌↔◌, IsTrue, subst}
 use Rattle.executor_core.specs.CoreView.{state_of}
-use Rattle.executor_core.specs.State.{view_of_state}
-use Rattle.executor_core.specs.Needs.{IsRipe}
+use Rattle.executor_model.specs.State.{view_of_state}
+use Rattle.executor_model.specs.Needs.{IsRipe}
 use Rattle.worker_pool.specs.Books.{BookView}
 use Rattle.worker_pool.proofs.book.Book.ripe.Goals as goal
 

@@ -2,9 +2,9 @@ use Rattle.std.proofs.Common.{◌≡◌, ◌≢◌, true, inl, inr, [], ◌∷�
 use Rattle.std.proofs.lemmas.Bool.{false≢true}
 use Rattle.task_word.specs.declared.views.CoreSeatView.{CoreSeatView}
 use Rattle.queue_code.specs.Calls.{task_count}
-use Rattle.executor_core.specs.declared.types.Need.TheVariants as n
+use Rattle.executor_model.specs.declared.types.Need.TheVariants as n
 use Rattle.executor_core.specs.declared.foreseen.Foreseen.{Foreseen}
-use Rattle.executor_core.specs.Histories.{is_call, is_end as stands_in}
+use Rattle.executor_model.specs.Histories.{is_call, is_end as stands_in}
 use Rattle.executor_core.specs.CoreView.{workers_of, Steps, comes_before_event}
 use Rattle.executor_laws.specs.Cancels.{is_needed}
 use Rattle.worker_pool.specs.own.Moves.{CanMove, WasMet, moves_made}

@@ -1,6 +1,6 @@
 use Rattle.std.proofs.Common.{◌∙◌, inl, refl, arith}
 use Rattle.queue_code.specs.Calls.{submits_task}
-use Rattle.executor_core.proofs.Flowing.{how_many-le}
+use Rattle.executor_model.proofs.Flowing.{how_many-le}
 use Rattle.worker_pool.proofs.Growing.{nothing_noted, noted_then, same_handles, handles_then}
 use Rattle.worker_pool.proofs.Looking.{marks_then}
 use Rattle.worker_pool.proofs.desk.Desk.look_all.Goals as goal

@@ -2,7 +2,7 @@ use Rattle.std.proofs.Common.{[], ◌∙◌, sym, refl, arith}
 use Rattle.worker_pool.proofs.Growing.{same_plan, same_then, same_handles, handles_then, none_passed, one_comes, call_tried}
 use Rattle.std.proofs.lemmas.List.{append-nil}
 use Rattle.executor_core.specs.CoreView.{workers_of}
-use Rattle.executor_core.specs.Flows.{happening_of}
+use Rattle.executor_model.specs.Flows.{happening_of}
 use Rattle.worker_pool.specs.own.Steps.{past_in, part_in}
 use Rattle.worker_pool.proofs.desk.Desk.make_calls.Goals as goal
 

@@ -1,6 +1,6 @@
 use Rattle.std.proofs.Common.{◌≡◌, ◌++◌, List}
 use Rattle.std.specs.Prelude.{vec_len, vec_capacity}
-use Rattle.executor_core.specs.declared.types.Happening.{Happening}
+use Rattle.executor_model.specs.declared.types.Happening.{Happening}
 use Rattle.executor_core.specs.CoreView.{IsCounted, room_of}
 use Rattle.worker_pool.specs.own.Steps.{IsKept, HasRoom, SamePlan, OnlyOwnGrows, part_in}
 use Rattle.worker_pool.proofs.Growing.{PassesBefore}

@@ -1,5 +1,5 @@
 use Rattle.std.proofs.Common.{[], ◌∷◌, ◌++◌, ◌∙◌, sym, ap}
-use Rattle.executor_core.specs.declared.types.Happening.TheVariants as h
+use Rattle.executor_model.specs.declared.types.Happening.TheVariants as h
 use Rattle.executor_core.specs.CoreView.{workers_of}
 use Rattle.worker_pool.specs.own.Steps.{past_in}
 use Rattle.worker_pool.proofs.Keepings.{still_comes, past_more, moves_on}

@@ -1,7 +1,7 @@
 use Rattle.std.proofs.Common.{◌∙◌, refl, arith}
 use Rattle.queue_code.specs.Calls.{submits_task}
-use Rattle.executor_core.specs.declared.types.Happening.TheVariants as h
-use Rattle.executor_core.proofs.Flowing.{how_many-le}
+use Rattle.executor_model.specs.declared.types.Happening.TheVariants as h
+use Rattle.executor_model.proofs.Flowing.{how_many-le}
 use Rattle.worker_pool.proofs.Growing.{none_for, noted_for_then, same_handles, handles_then}
 use Rattle.worker_pool.proofs.Sweeps.{starts_at_none}
 use Rattle.worker_pool.proofs.desk.Desk.sweep_all.Goals as goal

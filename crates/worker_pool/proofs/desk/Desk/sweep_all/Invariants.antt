@@ -1,6 +1,6 @@
 use Rattle.std.proofs.Common.{◌≡◌}
 use Rattle.std.specs.Prelude.{vec_len, vec_capacity}
-use Rattle.executor_core.specs.declared.types.Happening.TheVariants as h
+use Rattle.executor_model.specs.declared.types.Happening.TheVariants as h
 use Rattle.worker_pool.specs.own.Steps.{SweepsUpTo, OnlyOwnGrows, NotedFor, HasRoom}
 use Rattle.worker_pool.proofs.desk.Desk.sweep_all.Given as goal
 

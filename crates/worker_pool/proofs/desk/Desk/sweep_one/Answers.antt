@@ -1,7 +1,7 @@
 use Rattle.std.proofs.Common.{◌<◌, ◌+◌, ◌∙◌, [], sym, ap, subst}
 use Rattle.task_word.specs.Views.{and_if}
 use Rattle.task_word.specs.Answers.{is_won}
-use Rattle.executor_core.specs.declared.types.Happening.TheVariants as h
+use Rattle.executor_model.specs.declared.types.Happening.TheVariants as h
 use Rattle.worker_pool.specs.own.Moves.{with_mark}
 use Rattle.worker_pool.specs.own.Steps.{SweepsUpTo}
 use Rattle.worker_pool.proofs.Growing.{none_for, same_handles, in_front}

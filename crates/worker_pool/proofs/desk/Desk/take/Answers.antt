@@ -1,6 +1,6 @@
 use Rattle.std.proofs.Common.{[], ◌∷◌, sym, subst, List}
-use Rattle.executor_core.specs.declared.types.Happening.{Happening}
-use Rattle.executor_core.specs.Flows.{happening_of}
+use Rattle.executor_model.specs.declared.types.Happening.{Happening}
+use Rattle.executor_model.specs.Flows.{happening_of}
 use Rattle.executor_core.specs.CoreView.{workers_of}
 use Rattle.worker_pool.specs.own.Steps.{past_in, part_in, Completes}
 use Rattle.worker_pool.proofs.Growing.{for_same, same_then, handles_then, passes_take, part_last}

@@ -1,5 +1,5 @@
 use Rattle.std.proofs.Common.{inl, [], ◌∷◌, ◌∙◌, sym, subst, refl, arith}
-use Rattle.executor_core.specs.declared.types.Happening.{Happening}
+use Rattle.executor_model.specs.declared.types.Happening.{Happening}
 use Rattle.executor_core.specs.CoreView.{workers_of}
 use Rattle.worker_pool.specs.own.Steps.{past_in, Completes, Comes}
 use Rattle.worker_pool.proofs.Keepings.{still_comes}

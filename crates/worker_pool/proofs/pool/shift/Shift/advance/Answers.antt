@@ -1,5 +1,5 @@
 use Rattle.std.proofs.Common.{◌≡◌, ◌∙◌, IfOk, sym, ap, subst}
-use Rattle.executor_core.specs.declared.types.Event.TheVariants as v
+use Rattle.executor_model.specs.declared.types.Event.TheVariants as v
 use Rattle.worker_pool.specs.Books.{BookView}
 use Rattle.worker_pool.specs.Applies.{Applies, Tells}
 use Rattle.worker_pool.specs.own.Shifts.{Under}
