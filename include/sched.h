@@ -57,7 +57,7 @@
  * - malloc, realloc and free come from one allocator, and align as C asks.
  * It is written for C11 and C++11, or later.
  *
- * Cost: a plan takes some 80 bytes for each task, 12 for each worker, and 48 for each line that one event may have: one, one
+ * Cost: a plan takes some 80 bytes for each task, 8 for each worker, and 48 for each line that one event may have: one, one
  * for each call of the plan, and one for each task. An event costs what the calls cost that it reaches, and else what the
  * queue of waiting tasks does.
  */

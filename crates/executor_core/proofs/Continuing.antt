@@ -1,5 +1,5 @@
 -- What a core's steps are, given a history in which it stands.
-use Rattle.std.proofs.Common.{◌≡◌, ℕ, ◌+◌, List, [], ◌∷◌, ◌++◌, refl, sym, ap, ◌∙◌, subst, append_assoc, append-nil}
+use Rattle.std.proofs.Common.{◌≡◌, ℕ, List, [], ◌∷◌, ◌++◌, refl, sym, ap, ◌∙◌, subst, append_assoc, append-nil}
 use Rattle.executor_model.specs.declared.types.Event.{Event}
 use Rattle.executor_model.specs.declared.types.Happening.{Happening}
 use Rattle.executor_model.specs.declared.types.Line.{Line}

@@ -1,82 +1,53 @@
 -- The core before anything happened, and which calls a moment reaches.
-use Rattle.std.proofs.Common.{zero, suc, ◌≡◌, ℕ, ◌+◌, ◌<◌, ◌≤◌, nat_le, Bool, true, false, cond, inl, inr, List, [], ◌∷◌, length, map, Option, Some, None, refl, sym, ap, ◌∙◌, arith, subst}
+use Rattle.std.proofs.Common.{zero, suc, ◌≡◌, ℕ, ◌+◌, ◌<◌, ◌≤◌, nat_le, Bool, true, false, cond, inl, inr, List, [], ◌∷◌, length, Some, None, refl, sym, ap, ◌∙◌, arith}
 use Rattle.std.specs.Prelude.{slice_get, slice_index_or, replicate, IsTrue}
 use Rattle.std.proofs.lemmas.Option.{none-some, slice_get_within, get_or_from_slice_get}
 use Rattle.std.proofs.lemmas.Bool.{false≢true, le-leb, leb-true, cases_lt}
 use Rattle.std.proofs.lemmas.Bool.Decides.{nat_tests}
 use Rattle.std.proofs.lemmas.List.{length-replicate}
-use Rattle.sched_time.specs.declared.policies.Policies.{Policies}
-use Rattle.executor_model.specs.declared.task.Task.{Task}
-use Rattle.executor_model.specs.declared.task.Stage.TheVariants as ph
 use Rattle.queue_code.specs.Calls.{Planned, IsOrderly, IsPlanned, IsOrderlyFrom, count_after, how_many, task_count}
 use Rattle.executor_model.specs.Flows.{reached, ReachesNext}
-use Rattle.sched_time.specs.Policies.{default_policies}
-use Rattle.executor_model.specs.State.{opening, vacant, view_of_state}
-use Rattle.executor_core.specs.CoreView.{CoreView, state_of, IsOpening}
-use Rattle.executor_core.specs.own.Invariants.{IsWellFormedCore}
-use Rattle.executor_model.specs.own.Soundness.{IsSound, IsDue}
-use Rattle.executor_model.specs.own.Phases.{queued, held}
-use Rattle.executor_model.proofs.Agree.{opening_sound}
 use Rattle.executor_model.proofs.Tables.{at_replicate}
+use Rattle.task_table.specs.Seats.{slot_of}
+use Rattle.task_table.specs.Tables.{TableView, Stands}
+use Rattle.executor_core.specs.CoreView.{IsOpening}
+use Rattle.executor_core.specs.own.Invariants.{core_of, ArePlaced, IsReached, IsCore}
+use Rattle.executor_core.proofs.Reaching.{count_tasks, state_there}
 
--- vacant tasks stand in no queue
+-- an empty slot holds no task
+none_placed : (count : ℕ) (t : TableView) → t.slots ≡ replicate count None → ArePlaced 0 t.slots
+none_placed count t is i x q = absurd (none-some x (sym (ap (λ slots. slot_of slots i) is ∙ at_replicate count i None) ∙ q))
 
-map_vacant : (n : ℕ) → map queued (replicate n vacant) ≡ replicate n None
-map_vacant zero = refl
-map_vacant (suc n) = ap (λ l. None ∷ l) (map_vacant n)
+-- where nothing happened yet
+none_happened : (calls : List Planned) (t : TableView) → IsOrderly calls → Stands t [] [] → IsReached calls 0 t []
+none_happened calls t orderly stands = record { stands = record { orderly = orderly; means = tt; shows = stands.shows }; front = refl; gone = λ i q. refl }
 
-map_unheld : (n : ℕ) → map held (replicate n vacant) ≡ replicate n None
-map_unheld zero = refl
-map_unheld (suc n) = ap (λ l. None ∷ l) (map_unheld n)
+-- a core whose table is that of a plan before anything happened
+pub opening_core : (calls : List Planned) (limit count workers : ℕ) (t : TableView) (sought : Bool) → IsPlanned calls → length t.work ≡ workers → workers ≤ 64 → count ≡ task_count calls → t.slots ≡ replicate count None → Stands t [] [] → sought ≡ false → IsCore (core_of calls limit 0 0 t) t sought
+opening_core calls limit count workers t sought orderly width few counted is stands unsought = record {
+  shown = refl;
+  orderly = orderly;
+  made = omega arith;
+  few = omega (arith, width, few);
+  taken = omega arith;
+  moment = omega (arith, stands.shows.moment);
+  ahead = λ p next. omega (arith, stands.shows.moment);
+  count = count_tasks t.slots ∙ (ap length is ∙ (length-replicate count None ∙ counted));
+  past = [];
+  reached = none_happened calls t orderly.1 stands;
+  placed = none_placed count t is;
+  delayed = λ q. absurd (false≢true (sym unsought ∙ q));
+}
 
--- what contracts see of a core that was just made
-abbrev pub opening_machine : List Planned → ℕ → List Task → List (Option ℕ) → Policies → CoreView
-opening_machine calls limit tasks work policies = record { calls = calls; limit = limit; taken = 0; made = 0; moment = 0; tasks = tasks; work = work; policies = policies; shut = false; stopped = false }
-
-opening_state : (calls : List Planned) (count workers limit : ℕ) (tasks : List Task) (work : List (Option ℕ)) (policies : Policies) → tasks ≡ replicate count vacant → work ≡ replicate workers None → policies ≡ default_policies → state_of (opening_machine calls limit tasks work policies) ≡ opening
-opening_state calls count workers limit tasks work policies is free unset =
-    (λ i. state_of (opening_machine calls limit (is i) (free i) (unset i))) ∙ (λ i. record opening { tasks = λ k. at_replicate count k vacant i; workers = λ w. at_replicate workers w None i })
-
--- a core that was just made is the opening one
-pub opening_is : (calls : List Planned) (count workers limit : ℕ) (tasks : List Task) (work : List (Option ℕ)) (policies : Policies) → tasks ≡ replicate count vacant → work ≡ replicate workers None → policies ≡ default_policies → IsOpening (opening_machine calls limit tasks work policies) calls workers limit
-opening_is calls count workers limit tasks work policies is free unset = record {
+-- is the opening one
+pub opening_is : (calls : List Planned) (limit count workers : ℕ) (t : TableView) → IsPlanned calls → t.slots ≡ replicate count None → length t.work ≡ workers → Stands t [] [] → IsOpening (core_of calls limit 0 0 t) calls workers limit
+opening_is calls limit count workers t orderly is width stands = record {
   calls = refl;
   limit = refl;
   taken = refl;
-  count = ap length free ∙ length-replicate workers None;
-  stands = opening_state calls count workers limit tasks work policies is free unset;
+  count = width;
+  stands = sym (state_there calls limit 0 0 t [] (none_happened calls t orderly.1 stands) (none_placed count t is));
 }
-
--- a core that was just made is well formed
-pub opening_kept : (calls : List Planned) (count workers limit : ℕ) (tasks : List Task) (work entries keeps : List (Option ℕ)) (policies : Policies) (sought : Bool) → IsPlanned calls → count ≡ task_count calls → 0 < workers → workers ≤ 64 →
-    tasks ≡ replicate count vacant → work ≡ replicate workers None → entries ≡ replicate count None → keeps ≡ replicate count None → policies ≡ default_policies →
-    sought ≡ false →
-    IsWellFormedCore (opening_machine calls limit tasks work policies) entries keeps sought
-opening_kept calls count workers limit tasks work entries keeps policies sought orderly counted some few is free empty unkept unset undelayed =
-    let long : length work ≡ workers = ap length free ∙ length-replicate workers None in
-    let at : (k : ℕ) → slice_index_or tasks k vacant ≡ vacant = λ k. ap (λ l. slice_index_or l k vacant) is ∙ at_replicate count k vacant in
-    let state = opening_state calls count workers limit tasks work policies is free unset in
-    record {
-      orderly = orderly;
-      made = omega arith;
-      some = omega (arith, long, some);
-      few = omega (arith, long, few);
-      taken = omega arith;
-      moment = omega arith;
-      ahead = λ p next. omega arith;
-      count = ap length is ∙ (length-replicate count vacant ∙ counted);
-      queue = empty ∙ (sym (map_vacant count) ∙ ap (map queued) (sym is));
-      keeping = unkept ∙ (sym (map_unheld count) ∙ ap (map held) (sym is));
-      timing = λ k used. absurd (used (ap (λ (x : Task). x.phase) (at k)));
-      fresh = λ k above. at k;
-      sound = subst IsSound (sym state) opening_sound;
-      due = subst (λ s. IsDue calls (view_of_state calls s)) (sym state) (λ k. (None, refl));
-      delayed = λ q. absurd (false≢true (sym undelayed ∙ q));
-      runs = record {
-        all = λ k. omega (arith, ap (λ (x : Task). x.run) (at k));
-        begun = λ k q. let none : ph.Vacant ≡ ph.Running = sym (ap (λ (x : Task). x.phase) (at k)) ∙ q in absurd cc;
-      };
-    }
 
 -- ---- calls that a moment reaches
 

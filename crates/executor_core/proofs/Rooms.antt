@@ -1,10 +1,9 @@
 -- The lines that single happenings may still add.
-use Rattle.std.proofs.Common.{suc, ◌≡◌, ℕ, ◌+◌, ◌≤◌, ◌||◌, Bool, true, false, cond, List, [], ◌∷◌, length, length-append, refl, ap, ◌∙◌, arith}
+use Rattle.std.proofs.Common.{suc, ◌≡◌, ℕ, ◌+◌, ◌≤◌, ◌||◌, Bool, true, false, cond, List, [], ◌∷◌, length, refl, ap, ◌∙◌, arith}
 use Rattle.std.specs.Prelude.{slice_index_or, not}
 use Rattle.executor_model.specs.declared.types.Happening.{Happening}
 use Rattle.executor_model.specs.declared.types.Line.{Line}
 use Rattle.executor_model.specs.declared.task.Task.{Task}
-use Rattle.executor_model.specs.Flows.{lines_from}
 use Rattle.executor_model.specs.Histories.{cancels, is_call}
 use Rattle.executor_model.specs.State.{State, vacant, reply_of}
 use Rattle.executor_model.specs.Tasks.{uncancelled_in}
@@ -28,12 +27,6 @@ fewer (x ∷ xs) (y ∷ ys) e stay =
     by true false stays l = let clash : false ≡ true = stays refl in absurd cc
     by false true stays l = omega (arith, l)
     by false false stays l = omega (arith, l)
-
--- where lines are added and the room that they take is given up, no more room is needed
-pub room_less : (old new : CoreView) (before lines : List Line) (hs : List Happening) → Steps old new before lines hs → length lines + room_of new ≤ length before + room_of old → room_of new ≤ room_of old
-room_less old new before lines hs steps l =
-    let added = lines_from old.calls (workers_of old) (state_of old) hs in
-    omega (arith, l, ap length steps.lines, length-append before added)
 
 made_more : (b : Bool) (n : ℕ) → n ≤ cond b (1 + n) n
 made_more true n = omega arith

@@ -1,6 +1,6 @@
 -- What contracts see of an executor's core, and the state and history in which it stands.
 -- All of it is this project's rule.
-use Rattle.std.specs.Prelude.{◌≡◌, ℕ, ◌+◌, ◌-◌, ◌<◌, ◌≤◌, Bool, true, false, List, [], ◌∷◌, ◌++◌, length, Option, None, slice_index_or, if◌then◌else◌}
+use Rattle.std.specs.Prelude.{◌≡◌, ℕ, ◌+◌, ◌-◌, ◌<◌, ◌≤◌, Bool, true, false, List, [], ◌∷◌, ◌++◌, length, Option, None, slice_index_or}
 use Rattle.sched_time.specs.declared.policies.Policies.{Policies}
 use Rattle.executor_model.specs.declared.types.Event.{Event}
 use Rattle.executor_model.specs.declared.types.Happening.{Happening}
@@ -17,7 +17,7 @@ use Rattle.executor_model.specs.Tasks.{uncancelled_in}
 use Rattle.executor_model.specs.declared.types.Need.{Need}
 use Rattle.executor_model.specs.declared.types.Need.TheVariants as n
 
--- what contracts see of a core: its plan's calls, how many of them it made, the moment, its two tables, its policies,
+-- what contracts see of a core: its plan's calls, how many of them it made, the moment, its tasks and its workers' tasks, its policies,
 -- and whether it is shut, and stopped
 pub record CoreView : Type 0 where
   pub calls : List Planned

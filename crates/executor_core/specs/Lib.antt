@@ -17,4 +17,5 @@ pub use Rattle.executor_model.specs.Within
 pub use Rattle.executor_model.specs.Needs
 pub mod CoreView
 pub mod Foresight
+pub mod Alike
 pub mod own

@@ -2,4 +2,3 @@
 pub mod Ends
 pub mod Invariants
 pub mod OwnSteps
-pub mod Tables

@@ -4,7 +4,8 @@
 //!
 //! A [`Core`] is made of a [`Code`](queue_code::Code), which makes the calls of a plan, each at its moment.
 //! [`event`](Core::event) hands it what happens outside: the clock shows a moment, a worker asks for work, a worker's run has ended, a task is to be cancelled.
-//! Each answer is a [`Line`] at the end of a list. The core reads no clock, runs no task and starts no thread.
+//! Each answer is a [`Line`] at the end of a list. The core reads no clock, runs no task and starts no thread. What happens, what it
+//! is answered and the equations that fix each answer are those of `executor_model`, whose types this crate passes on.
 //!
 //! ```rust
 //! // At moment 0 task 0 is submitted, for one run 5 nanoseconds later.
@@ -79,13 +80,13 @@
 //! A [`Line`] takes 32 bytes, and a happening that is kept, a [`KeptHappening`], 16: the shapes of [`Message`] (40 bytes) and
 //! [`Happening`] (24) nest, so a list holds neither.
 //!
-//! `Core::new` takes all memory that the core needs for itself: for each task some 80 bytes, and 12 for each worker. It
+//! `Core::new` takes all memory that the core needs for itself: for each task some 80 bytes, and 8 for each worker. It
 //! keeps the code, and fetches the calls from it one after the other: however often a loop of the code is made, its
 //! calls take no memory. `event` takes memory for lines alone, and none where the list has room for one line, one for
 //! each call that is left and one for each task that is not cancelled. A clock costs what the calls that it reaches
 //! cost; a submission, a start, a finish and a cancel cost what the queue of waiting tasks does
 //! (see [`DelayQueue`](delay_queue::DelayQueue)), and a start also what the kept tasks that leave cost. Setting a policy
-//! that does not sweep and asking how far the executor is cost the same whatever it holds. A sweep goes over all
+//! that does not sweep costs the same whatever it holds, and asking how far the executor is a look at each worker. A sweep goes over all
 //! tasks where there may be one that it ends: at a shutdown at once where a task waits, where periodic tasks do not go on and one
 //! of them waits, and the first time that delayed tasks are not executed. Each other sweep costs nothing but the kept tasks that
 //! leave.
@@ -100,8 +101,6 @@ mod foreseen;
 mod laws;
 mod machine;
 mod room;
-mod tallies;
-mod tasks;
 
 pub use error::CoreError;
 pub use executor_model::{
@@ -110,6 +109,6 @@ pub use executor_model::{
     most_workers_is_the_limit, said_equality_tells,
 };
 pub use foreseen::{Foreseen, RunEnd};
-pub use laws::core_error_equality_tells;
+pub use laws::{core_error_equality_tells, live_and_plan_give_the_same_lines};
 pub use machine::Core;
 pub use room::make_room;

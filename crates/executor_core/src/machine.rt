@@ -17,11 +17,9 @@ mod workers;
 
 use crate::error::CoreError;
 use crate::room::make_room;
-use crate::tasks::Tasks;
-use delay_queue::DelayQueue;
 use executor_model::{Event, Happening, Line, MOST_WORKERS};
+use plan_table::{PlanTable, plan_table};
 use queue_code::{Agenda, Code};
-use sched_time::Policies;
 use std::alloc::{AllocError, Allocator};
 use std::marker::Model;
 use task_word::Word;
@@ -30,19 +28,8 @@ use task_word::Word;
 #[derive(Drop)]
 pub struct Core<A: Allocator> {
     calls: Agenda<A>,
-    moment: u64,
-    tasks: Tasks<A>,
-    /// The task of each worker.
-    work: Vec<Option<u32>, A>,
-    /// The tasks that wait.
-    queue: DelayQueue<A>,
-    /// The tasks that were cancelled while they waited, and still stand in the queue.
-    kept: DelayQueue<A>,
-    policies: Policies,
-    /// A call to shut down was made, orderly or at once.
-    shut: bool,
-    /// A call to shut down at once was made.
-    stopped: bool,
+    /// The tasks, each in the slot of its number, and the workers.
+    table: PlanTable<A>,
     /// A sweep has looked for the delayed tasks and ended them, and no more come.
     sought: bool,
     limit: u32,
@@ -51,13 +38,13 @@ pub struct Core<A: Allocator> {
 
 impl<A: Allocator> Model for Core<A> {
     ghost use Rattle.executor_core.specs.CoreView.{CoreView};
-    ghost use Rattle.executor_core.specs.own.Invariants.{IsWellFormedCore};
+    ghost use Rattle.executor_core.specs.own.Invariants.{IsCore, core_of};
 
     ghost Value = { CoreView };
 
-    ghost view = { λ c. record { calls = c.calls.items; limit = c.limit; taken = c.taken; made = c.calls.made; moment = c.moment; tasks = c.tasks; work = c.work.items; policies = c.policies; shut = c.shut; stopped = c.stopped } };
+    ghost view = { λ c. core_of c.calls.items c.limit c.taken c.calls.made c.table };
 
-    ghost invariant = { λ c. IsWellFormedCore (record { calls = c.calls.items; limit = c.limit; taken = c.taken; made = c.calls.made; moment = c.moment; tasks = c.tasks; work = c.work.items; policies = c.policies; shut = c.shut; stopped = c.stopped }) c.queue.entries c.kept.entries c.sought };
+    ghost invariant = { λ c. IsCore (core_of c.calls.items c.limit c.taken c.calls.made c.table) c.table c.sought };
 }
 
 impl<A: Allocator> Core<A> {
@@ -91,7 +78,7 @@ impl<A: Allocator> Core<A> {
         ensures value { result ≡ self.now.moment }
         ensures limit { result ≤ longest }
     {
-        self.moment
+        self.table.now()
     }
 
     /// How many events were taken.
@@ -106,7 +93,7 @@ impl<A: Allocator> Core<A> {
     pub fn tasks(&self) -> usize
         ensures { result ≡ task_count self.now.calls }
     {
-        self.tasks.len()
+        self.table.slots()
     }
 
     /// The word of each task by its number: how far the task has come, and whether it was cancelled.
@@ -115,7 +102,7 @@ impl<A: Allocator> Core<A> {
         ensures words { result.now ≡ map word_of_task self.now.tasks }
         ensures count { length result.now ≡ task_count self.now.calls }
     {
-        self.tasks.words()
+        self.table.stored().words()
     }
 
     /// Takes an event: makes the calls that an accepted clock reaches, then answers it. It is [counted](Core::count), and as
@@ -213,32 +200,20 @@ impl<A: Allocator> Core<A> {
     pub fn room(&self) -> usize
         ensures { result ≡ room_of self.now }
     {
-        1 + self.calls.left() + self.tasks.uncancelled()
+        1 + self.calls.left() + self.table.stored().uncancelled()
     }
 
-    /// A core with tables for the tasks of a code and this many workers.
+    /// A core with a table for the tasks of a code and this many workers.
     fn with_tables(alloc: A, code: Code<A>, workers: u8, limit: u32) -> Result<Core<A>, AllocError>
     where
         A: Copy,
         requires { IsWorkerCount workers }
         ensures { IfOk result (λ core. IsOpening core (calls_of code) workers limit) }
     {
-        let count = code.tasks();
-        let tasks = Tasks::new(alloc, count)?;
-        let work = Vec::from_elem(alloc, None, workers as usize)?;
-        let queue = DelayQueue::new(alloc, count).map_err(|_| AllocError)?;
-        let kept = DelayQueue::new(alloc, count).map_err(|_| AllocError)?;
-        let calls = Agenda::new(code);
+        let table = plan_table(alloc, code.tasks(), workers)?;
         Ok(Core {
-            calls,
-            moment: 0,
-            tasks,
-            work,
-            queue,
-            kept,
-            policies: Policies::defaults(),
-            shut: false,
-            stopped: false,
+            calls: Agenda::new(code),
+            table,
             sought: false,
             limit,
             taken: 0,

@@ -1,5 +1,5 @@
 -- What a cancel does to a task, by its phase.
-use Rattle.std.proofs.Common.{◌≡◌, ◌≢◌, ℕ, ◌+◌, ◌<◌, ◌≤◌, ◌==◌, ◌&&◌, ◌||◌, Bool, true, false, cond, List, refl, sym, ap, ◌∙◌, ◌∷◌}
+use Rattle.std.proofs.Common.{◌≡◌, ◌≢◌, ℕ, ◌+◌, ◌<◌, ◌≤◌, ◌==◌, ◌&&◌, ◌||◌, Bool, true, false, cond, List, refl, sym, ap, ◌∙◌}
 use Rattle.std.specs.Prelude.{not}
 use Rattle.std.proofs.lemmas.Bool.{lt-ltb, le-ltb, false_from_ne_true}
 use Rattle.executor_model.specs.declared.types.CancelEffect.{CancelEffect}
@@ -13,12 +13,11 @@ use Rattle.executor_model.specs.declared.task.Task.{Task}
 use Rattle.queue_code.specs.Calls.{Planned, Terms, task_count}
 use Rattle.executor_model.specs.View.{is_cancellable, is_running}
 use Rattle.executor_model.specs.Answers.{bare, effect_on}
-use Rattle.executor_model.specs.State.{State, vacant, view_of_state, seen_task, seen_phase, reply_of}
+use Rattle.executor_model.specs.State.{State, view_of_state, seen_task, seen_phase, reply_of}
 use Rattle.executor_model.proofs.Sound.{is_seen_waiting}
 use Rattle.executor_model.proofs.Seen.{next_eqb, same_eqb}
 
 -- what a cancel does, by the phase of a task
-
 abbrev effect_of : Bool → Bool → CancelEffect
 effect_of accepted live = cond accepted (cond live f.Yes f.No) f.Absent
 

@@ -12,7 +12,7 @@ use Rattle.executor_model.specs.declared.types.Line.{Line}
 use Rattle.queue_code.specs.Calls.{Planned, how_many, IsOrderly, IsOrderlyFrom, count_after}
 use Rattle.executor_model.specs.Answers.{reply, is_accepted, moment_after}
 use Rattle.executor_model.specs.Histories.{HistoryEntry, entry_of, happenings, made, now_of, is_call, answer, IsHistoryOf, MayCome}
-use Rattle.executor_model.specs.State.{State, next, reply_of, after, after_from}
+use Rattle.executor_model.specs.State.{State, next, reply_of, after_from}
 use Rattle.executor_model.specs.Flows.{reached, part_of, flow, history_from, history_of, lines_at, lines_of, lines_from, reply_in}
 use Rattle.executor_model.proofs.Agree.{Agrees, next_agrees}
 

@@ -1,5 +1,5 @@
 -- What is seen of tasks that wait or are run.
-use Rattle.std.proofs.Common.{◌≡◌, ℕ, ◌+◌, ◌==◌, ◌&&◌, Bool, true, false, ◌∷◌, refl, ap, arith}
+use Rattle.std.proofs.Common.{◌≡◌, ℕ, ◌+◌, ◌==◌, ◌&&◌, Bool, true, false, refl, ap, arith}
 use Rattle.std.specs.Prelude.{not}
 use Rattle.std.proofs.lemmas.Bool.{false≢true, eq-eqb}
 use Rattle.std.proofs.lemmas.Bool.Decides.{nat_tests}
@@ -10,8 +10,6 @@ use Rattle.queue_code.specs.Calls.{Terms}
 use Rattle.executor_model.specs.View.{is_running, is_waiting}
 use Rattle.executor_model.specs.State.{seen_task, seen_phase}
 use Rattle.executor_model.specs.own.Phases.{is_running_phase, is_waiting_phase, waits_with}
-
--- what is seen of a task by its phase
 
 -- a number and the next one differ
 pub next_eqb : (n : ℕ) → (1 + n == n) ≡ false

@@ -29,8 +29,6 @@ pub and_true : (b : Bool) → (b && true) ≡ b
 and_true true = refl
 and_true false = refl
 
--- which tasks are ended
-
 -- a number is one of a filtered list where it is one of the list and passes the test
 end_filter : (test : ℕ → Bool) (ks : List ℕ) (k : ℕ) → is_end k (filter test ks) ≡ (is_end k ks && test k)
 end_filter test [] k = refl
@@ -82,8 +80,6 @@ filter_next test n = ap (λ j. filter test (range_with_len 0 j)) (add-one n) ∙
 pub filter_none : (test : ℕ → Bool) (ks : List ℕ) → ((k : ℕ) → test k ≡ false) → filter test ks ≡ []
 filter_none test [] none = refl
 filter_none test (k ∷ ks) none = ap (λ b. cond b (k ∷ filter test ks) (filter test ks)) (none k) ∙ filter_none test ks none
-
--- a task that waits is ended
 
 -- both are so
 pub and_left : (b c : Bool) → (b && c) ≡ true → b ≡ true

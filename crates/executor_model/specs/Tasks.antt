@@ -1,4 +1,4 @@
--- The words of a core's tasks, and how many of them are not cancelled. All of it is this project's rule.
+-- The words of tasks, and how many of them are not cancelled. All of it is this project's rule.
 use Rattle.std.specs.Prelude.{ℕ, not, List}
 use Rattle.task_word.specs.Words.{Parts}
 use Rattle.task_word.specs.declared.phases.Phase.{Phase as WordPhase}

@@ -27,14 +27,16 @@
 //!
 //! # Behaviour
 //!
-//! No code here answers anything. What a happening is answered is said by definitions, which contracts of the crates above cite:
-//! `View` is what an answer looks at, and `Answers` the table of answers; `Histories` says which lists of happenings with
-//! their answers are histories of a plan's calls; `Flows` which happenings come of events, and the lines of a history;
-//! `State` is what takes the place of a history where none is kept. `Needs` names the words that a happening moves.
+//! A [`Task`] is what an executor keeps of a task, with the [`Stage`] it is in. No code here answers anything. What a happening
+//! is answered is said by definitions, which contracts of the crates above cite: `View` is what an answer looks at, and `Answers`
+//! the table of answers; `Histories` says which lists of happenings with their answers are histories of a plan's calls; `Flows`
+//! which happenings come of events, and the lines of a history; `State` is what takes the place of a history where none is kept.
+//! `Needs` names the words that a happening moves, and `Tasks` the word of a task. `Counts` has the greatest number of workers,
+//! and `Within` histories that are answered by the table.
 //!
 //! # Errors, memory and cost
 //!
-//! No function fails, or takes memory. A [`Line`] takes 32 bytes and a [`KeptHappening`] 16: the shapes of [`Message`] (40 bytes) and
+//! No function fails, or takes memory, and each takes constant time. A [`Line`] takes 32 bytes and a [`KeptHappening`] 16: the shapes of [`Message`] (40 bytes) and
 //! [`Happening`] (24) nest, so a list holds neither.
 //!
 //! # Tests

@@ -1,5 +1,5 @@
 //! What a line says, in 24 bytes: the shapes of [`Message`] nest, and each nesting takes eight bytes for its tag.
-ghost use Rattle.std.specs.Prelude.{◌≡◌, ◌↔◌, true, ℕ};
+ghost use Rattle.std.specs.Prelude.{◌≡◌, ◌↔◌, true};
 ghost use Rattle.executor_model.specs.Said.{said_of, message_of};
 ghost use Rattle.executor_model.specs.declared.types.Answer.TheVariants as answer;
 ghost use Rattle.executor_model.specs.declared.types.Message.TheVariants as message;

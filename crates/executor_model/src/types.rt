@@ -281,6 +281,6 @@ pub enum Need {
     Rearm(u32),
     /// The word of this task, which is new or running, gets its cancel bit.
     Cancel(u32),
-    /// The word of each task that `Core::sweeps` names, which is new, gets its cancel bit.
+    /// The word of each task that the sweep ends, which is new, gets its cancel bit.
     Sweep,
 }

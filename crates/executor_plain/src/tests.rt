@@ -7,10 +7,10 @@ ghost use Rattle.std.specs.Prelude.{◌≡◌, IfOk};
 ghost use Rattle.queue_code.specs.Codes.{calls_of};
 
 use crate::trace_of_happenings;
-use executor_model::{Answer, CancelEffect, Happening, Kind, Line, Message};
+use executor_model::{Happening, Line};
 use queue_code::{Code, CodeCall, Cursor, Instr};
 use sched_time::Timing;
-use std::alloc::{AllocError, Allocator};
+use std::alloc::{AllocError, Allocator, Global};
 use std::process::Abort;
 use std::test::Fail;
 
@@ -29,32 +29,23 @@ fn made_by<A: Allocator + Copy>(
     Ok(calls)
 }
 
-/// The line of an answer.
-fn line(moment: u64, answer: Answer) -> Line {
-    Line::new(moment, Message::Answer(answer))
+/// What these lines say, each with its moment.
+fn text_of_lines(alloc: Global, lines: &[Line]) -> Result<String, Fail> {
+    let mut text = String::new(alloc);
+    for line in lines {
+        writeln!(text, "{} {:?}", line.moment(), line.message())?;
+    }
+    Ok(text)
 }
 
-/// The lines of a task that is submitted and cancelled while its worker runs it.
-fn lines() -> [Line; 5] {
-    let (worker, task, run, due) = (0, 0, 0, 5);
-    let kind = Kind::Schedule;
-    let effect = CancelEffect::Yes;
-    [
-        line(0, Answer::Idle { worker }),
-        line(5, Answer::Submit { task, kind, due }),
-        line(
-            5,
-            Answer::Start {
-                worker,
-                task,
-                run,
-                due,
-            },
-        ),
-        line(5, Answer::Cancel { task, effect }),
-        line(9, Answer::Clock),
-    ]
-}
+/// What is said of a task that is submitted and cancelled while its worker runs it.
+const SAID: &str = "\
+0 Answer(Idle { worker: 0 })
+5 Answer(Submit { task: 0, kind: Schedule, due: 5 })
+5 Answer(Start { worker: 0, task: 0, run: 0, due: 5 })
+5 Answer(Cancel { task: 0, effect: Yes })
+9 Answer(Clock)
+";
 
 #[test]
 fn calls_come_where_they_are_put(rt: HostRuntime) -> Result<(), Fail> {
@@ -75,6 +66,6 @@ fn calls_come_where_they_are_put(rt: HostRuntime) -> Result<(), Fail> {
     let _count = code.calls();
     let made = made_by(rt.alloc(), &code)?;
     let plain = trace_of_happenings(rt.alloc(), &made, 1, &happened)?;
-    assert_eq!(rt; plain.as_slice(), lines().as_slice());
+    assert_eq!(rt; text_of_lines(rt.alloc(), &plain)?.as_str(), SAID);
     Ok(())
 }

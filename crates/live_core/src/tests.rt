@@ -23,21 +23,40 @@ use steps::{Step, Told, do_step};
 /// What is done, and what is told then.
 type Row = (Step, Told);
 
+/// Rows, and the name of the constant that they are.
+type Named<'a> = (&'a str, &'a [Row]);
+
+/// Constants of rows, each with its name.
+macro_rules! named {
+    ($($name:ident),+ $(,)?) => {
+        [$((stringify!($name), $name)),+]
+    };
+}
+
+pub(crate) use named;
+
 /// Does what stands in each row, one after the other, and compares what is told.
-fn play_over<A: Allocator>(rt: &impl Abort, executor: &mut ScheduledExecutor<A>, rows: &[Row]) {
+fn play_over<A: Allocator>(
+    rt: &impl Abort,
+    executor: &mut ScheduledExecutor<A>,
+    (name, rows): Named<'_>,
+) {
     for (place, (step, wanted)) in rows.iter().enumerate() {
         let told = do_step(executor, *step);
-        assert_eq!(rt; told, *wanted, "row {place}");
+        assert_eq!(rt; told, *wanted, "{name}, row {place}");
     }
 }
 
-/// Does the same with a new executor of two workers: with ample memory, with the first growth of each step refused, and with each
-/// growth of all steps refused in turn.
-fn play(rt: &(impl AllocGlobal + Abort), rows: &[Row]) -> Result<(), Fail> {
-    let mut executor = ScheduledExecutor::new(rt.alloc(), 2)?;
-    play_over(rt, &mut executor, rows);
-    refuse_firsts(rt, rows)?;
-    refuse_each(rt, rows)
+/// Does the same with new executors of two workers, for each list of rows: with ample memory, with the first growth of each step
+/// refused, and with each growth of all steps refused in turn.
+fn play_each(rt: &(impl AllocGlobal + Abort), all: &[Named<'_>]) -> Result<(), Fail> {
+    for named in all {
+        let mut executor = ScheduledExecutor::new(rt.alloc(), 2)?;
+        play_over(rt, &mut executor, *named);
+        refuse_firsts(rt, *named)?;
+        refuse_each(rt, *named)?;
+    }
+    Ok(())
 }
 
 #[test]

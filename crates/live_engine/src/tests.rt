@@ -12,21 +12,11 @@ use std::alloc::Global;
 use std::process::Abort;
 use std::test::Fail;
 
-/// A run by one worker, and what it has to answer and to write.
-#[derive(Clone, Copy)]
-struct Row<'a> {
-    input: &'a str,
-    answer: Result<LiveReport, RunError>,
-    trace: &'a str,
-}
+/// What a run answers.
+type Answer = Result<LiveReport, RunError>;
 
 /// What a run by so many workers answers that reads at most `most` bytes at a time, and what it wrote.
-fn ran(
-    alloc: Global,
-    workers: u8,
-    input: &str,
-    most: usize,
-) -> (Result<LiveReport, RunError>, Vec<u8>) {
+fn ran(alloc: Global, workers: u8, input: &str, most: usize) -> (Answer, Vec<u8>) {
     let mut journal = Journal::new(alloc, false);
     let mut reader = Pieces::new(input.as_bytes(), most);
     let mut writer = Writing::new(Vec::new(alloc));
@@ -34,13 +24,12 @@ fn ran(
     (answer, writer.into_inner())
 }
 
-/// Checks the answer and the bytes of a row, read at once and a few bytes at a time.
-fn answers(rt: &(impl AllocGlobal + Abort), row: &Row<'_>) {
+/// Checks what a run by one worker answers and writes, whose input is read at once and a few bytes at a time.
+fn answers(rt: &(impl AllocGlobal + Abort), input: &str, wanted: Answer, trace: &str) {
     for most in [65_536usize, 1, 2, 7] {
-        let (answer, trace) = ran(rt.alloc(), 1, row.input, most);
-        let input = row.input;
-        assert!(rt; answer == row.answer, "{input}: {answer:?}");
-        assert!(rt; trace.as_slice() == row.trace.as_bytes(), "{input}");
+        let (answer, written) = ran(rt.alloc(), 1, input, most);
+        assert!(rt; answer == wanted, "{input}: {answer:?}");
+        assert!(rt; written.as_slice() == trace.as_bytes(), "{input}");
     }
 }
 
@@ -50,57 +39,22 @@ fn traces(rt: &(impl AllocGlobal + Abort), input: &str, trace: &str) {
         lines_read: input.lines().count() as u64,
         lines_written: trace.lines().count() as u64,
     };
-    let row = Row {
-        input,
-        answer: Ok(report),
-        trace,
-    };
-    answers(rt, &row)
+    answers(rt, input, Ok(report), trace)
 }
 
 #[test]
 fn each_kind_of_line_is_answered(rt: HostRuntime) {
     traces(
         &rt,
-        "\
-call schedule 5
-call execute
-clock 0
-start 0
-finish 0 ok 7
-call rate 2 3
-call fixed 1 4
-call policy remove true
-call cancel 3
-cancel 0
-call ask
-cancel 9
-call shutdown
-call shutdown
-call execute
-call shutdown_now
-call ask
-",
-        "\
-0 submit 0 schedule due 5
-0 submit 1 schedule due 0
-0 clock
-0 start 0 task 1 run 0 due 0
-0 finish 0 task 1 run 0 done 7
-1 submit 2 rate due 3
-1 submit 3 fixed due 2
-1 policy remove true
-1 cancel 3 yes
-1 outside 0 yes
-1 ask queue 1 running 0 shutdown no terminated no
-1 error no task
-1 shutdown
-1 end 2
-1 shutdown again
-1 refuse 4 rejected
-1 shutdown now
-1 ask queue 0 running 0 shutdown yes terminated yes
-",
+        "call schedule 5\ncall execute\nclock 0\nstart 0\nfinish 0 ok 7\n\
+         call rate 2 3\ncall fixed 1 4\ncall policy remove true\ncall cancel 3\ncancel 0\ncall ask\n\
+         cancel 9\ncall shutdown\ncall shutdown\ncall execute\ncall shutdown_now\ncall ask\n",
+        "0 submit 0 schedule due 5\n0 submit 1 schedule due 0\n0 clock\n\
+         0 start 0 task 1 run 0 due 0\n0 finish 0 task 1 run 0 done 7\n\
+         1 submit 2 rate due 3\n1 submit 3 fixed due 2\n1 policy remove true\n1 cancel 3 yes\n\
+         1 outside 0 yes\n1 ask queue 1 running 0 shutdown no terminated no\n\
+         1 error no task\n1 shutdown\n1 end 2\n1 shutdown again\n1 refuse 4 rejected\n\
+         1 shutdown now\n1 ask queue 0 running 0 shutdown yes terminated yes\n",
     )
 }
 
@@ -109,14 +63,8 @@ fn a_call_comes_after_the_last_clock(rt: HostRuntime) {
     traces(
         &rt,
         "clock 5\ncall execute\nclock 4\ncall execute\nclock 6\ncall ask\n",
-        "\
-5 clock
-6 submit 0 schedule due 6
-6 error backward
-6 submit 1 schedule due 6
-6 clock
-7 ask queue 2 running 0 shutdown no terminated no
-",
+        "5 clock\n6 submit 0 schedule due 6\n6 error backward\n6 submit 1 schedule due 6\n6 clock\n\
+         7 ask queue 2 running 0 shutdown no terminated no\n",
     )
 }
 
@@ -125,49 +73,31 @@ fn a_cancel_of_a_number_given_out_later_cancels_nothing(rt: HostRuntime) {
     traces(
         &rt,
         "cancel 0\ncall schedule 5\ncall ask\n",
-        "\
-0 error no task
-0 submit 0 schedule due 5
-0 ask queue 1 running 0 shutdown no terminated no
-",
+        "0 error no task\n0 submit 0 schedule due 5\n\
+         0 ask queue 1 running 0 shutdown no terminated no\n",
     )
 }
 
 #[test]
 fn other_lines_are_refused(rt: HostRuntime) {
+    let first = "0 submit 0 schedule due 0\n";
     for (input, line, trace) in [
-        (
-            "call execute\nfoo\nclock 1\n",
-            2,
-            "0 submit 0 schedule due 0\n",
-        ),
-        ("call execute\ncall", 2, "0 submit 0 schedule due 0\n"),
+        ("call execute\nfoo\nclock 1\n", 2, first),
+        ("call execute\ncall", 2, first),
         ("call cancel 0\n", 1, ""),
-        (
-            "call execute\ncall cancel 1\n",
-            2,
-            "0 submit 0 schedule due 0\n",
-        ),
+        ("call execute\ncall cancel 1\n", 2, first),
         ("call rate 1 0\n", 1, ""),
         ("clock 01\n", 1, ""),
     ] {
-        let row = Row {
-            input,
-            answer: Err(RunError::EventLine(line)),
-            trace,
-        };
-        answers(&rt, &row)
+        answers(&rt, input, Err(RunError::EventLine(line)), trace)
     }
 }
 
 #[test]
 fn there_is_no_room_behind_the_last_moment(rt: HostRuntime) {
-    let row = Row {
-        input: "clock 4611686018427387904\ncall ask\ncall ask\n",
-        answer: Err(RunError::Full),
-        trace: "4611686018427387904 clock\n",
-    };
-    answers(&rt, &row)
+    let input = "clock 4611686018427387904\ncall ask\ncall ask\n";
+    let trace = "4611686018427387904 clock\n";
+    answers(&rt, input, Err(RunError::Full), trace)
 }
 
 #[test]
@@ -177,6 +107,11 @@ fn workers_are_1_to_64(rt: HostRuntime) {
         assert!(rt; answer == Err(RunError::Workers));
         assert!(rt; trace.is_empty());
     }
+}
+
+/// A call made at the moment 4.
+fn made(call: CallLine) -> MadeCall {
+    MadeCall { moment: 4, call }
 }
 
 #[test]
@@ -192,20 +127,8 @@ fn the_journal_keeps_each_call(rt: HostRuntime) {
         let calls = journal.calls();
         if is_wanted {
             assert!(rt; calls.len() == 2);
-            assert!(rt;
-                calls.first()
-                    == Some(&MadeCall {
-                        moment: 4,
-                        call: CallLine::Shutdown
-                    })
-            );
-            assert!(rt;
-                calls.last()
-                    == Some(&MadeCall {
-                        moment: 4,
-                        call: CallLine::Schedule(7)
-                    })
-            );
+            assert!(rt; calls.first() == Some(&made(CallLine::Shutdown)));
+            assert!(rt; calls.last() == Some(&made(CallLine::Schedule(7))));
         } else {
             assert!(rt; calls.is_empty());
         }
@@ -232,7 +155,7 @@ fn a_fault_of_the_writer_ends_the_run(rt: HostRuntime) {
 }
 
 /// Whether a run that wants its journal asks for so many growths, and what it answers where the last of them is refused.
-fn refused(alloc: Global, input: &str, growth: u64) -> (bool, Result<LiveReport, RunError>) {
+fn refused(alloc: Global, input: &str, growth: u64) -> (bool, Answer) {
     let heap = Refusing::new(alloc);
     heap.refuse(growth);
     let mut journal = Journal::new(&heap, true);

@@ -11,21 +11,26 @@ mod sequences;
 mod usage;
 
 use crate::trace_of_lines;
-use call_text::CallLine;
-use executor_model::Event;
+use call_text::{LiveFront, front_line};
 use executors::trace_of_executor;
 use live_engine::LiveLine;
 use std::alloc::Global;
 use std::test::Fail;
 
-/// The line of an event.
-fn event(event: Event) -> LiveLine {
-    LiveLine::Event(event)
-}
-
-/// The line of a call.
-fn call(call: CallLine) -> LiveLine {
-    LiveLine::Call(call)
+/// The lines that a text spells.
+fn read_lines(alloc: Global, text: &str) -> Result<Vec<LiveLine, Global>, Fail> {
+    let mut lines = Vec::new(alloc);
+    let mut rest = text.as_bytes();
+    for _ in text.lines() {
+        let (line, size) = match front_line(rest) {
+            LiveFront::Event(event, size) => (LiveLine::Event(event), size),
+            LiveFront::Call(call, size) => (LiveLine::Call(call), size),
+            LiveFront::Part | LiveFront::Refused => return Err("a line is none".into()),
+        };
+        lines.push(line)?;
+        rest = rest.get(size..).unwrap_or(&[]);
+    }
+    Ok(lines)
 }
 
 /// Whether both tell the same of some lines.

@@ -79,14 +79,34 @@ fn tells(rt: &(impl AllocGlobal + Abort), text: &str, fault: &str) -> Result<(),
     Ok(())
 }
 
-/// Checks what is told of each text of a table: a row has that, ` | `, and the text behind `front`.
+/// Checks what is told of the text that a row spells behind `front`.
+fn tells_spelled(
+    rt: &(impl AllocGlobal + Abort),
+    front: &str,
+    row: &str,
+    fault: &str,
+) -> Result<(), Fail> {
+    let text = spelled(rt.alloc(), row)?;
+    let text = format!(in rt.alloc(); "{front}{text}")?;
+    let answer = told(rt.alloc(), text.as_str())?;
+    assert!(rt; answer.as_str() == fault, "{fault} | {row}: {answer}");
+    Ok(())
+}
+
+/// Checks what is told of each text of a table: a row has that, ` | `, and the text behind `front`. Where ` ⇄ ` stands between
+/// two pieces it is that of two texts, which have the pieces in either order.
 fn tells_each(rt: &(impl AllocGlobal + Abort), front: &str, table: &str) -> Result<(), Fail> {
     for row in table.lines() {
         let (fault, text) = row.split_once(" | ").ok_or("no text")?;
-        let text = spelled(rt.alloc(), text)?;
-        let text = format!(in rt.alloc(); "{front}{text}")?;
-        let answer = told(rt.alloc(), text.as_str())?;
-        assert!(rt; answer.as_str() == fault, "{row}: {answer}");
+        match text.split_once(" ⇄ ") {
+            Some((one, other)) => {
+                for (first, second) in [(one, other), (other, one)] {
+                    let text = format!(in rt.alloc(); "{first} / {second}")?;
+                    tells_spelled(rt, front, text.as_str(), fault)?;
+                }
+            }
+            None => tells_spelled(rt, front, text, fault)?,
+        }
     }
     Ok(())
 }
@@ -215,21 +235,15 @@ Ambiguous block 2 call 1 | version = 1 / [[block]] / at = 100 / times = 3 / ever
 TooMany block 1 call 0 | version = 1 / [[block]] / times = 65536 / every = 0 / [[block.call]] / op = "ask" / [[block.call]] / op = "ask""#;
 
 /// Texts by what is told of them: what stands before each text of a table, and the table.
-const TABLES: [(&str, &str); 27] = [
+const TABLES: [(&str, &str); 26] = [
     ("", ANSWERS_EACH_EXAMPLE),
     (CALL, calls::REFUSES_AT_A_CALL),
     (CALL, calls::REFUSES_A_POLICY_A_SHUTDOWN_AND_A_QUESTION),
     (CALL, calls::TELLS_THE_FIRST_FAULT_OF_A_CALL),
     (HEADER, calls::TELLS_THE_FIRST_FAULT_OF_A_LATER_CALL),
-    (
-        controls::NAMED,
-        controls::TAKES_NO_NAME_OF_CONTROL_CHARACTERS,
-    ),
+    (controls::NAMED, controls::TAKES_NO_NAME_OF_CONTROLS),
     ("", documents::REFUSES_AT_THE_TEXT),
-    (
-        "",
-        documents::TAKES_LINE_ENDS_AND_A_BYTE_ORDER_MARK_WHERE_THEY_MAY_STAND,
-    ),
+    ("", documents::TAKES_LINE_ENDS_AND_A_BYTE_ORDER_MARK),
     ("version = 1\n", documents::REFUSES_WHAT_STANDS_TWICE),
     (HEADER, documents::TAKES_WHAT_TOML_HAS_SINCE_VERSION_1_1),
     (HEADER, headers::REFUSES_AT_THE_HEADER),
@@ -239,23 +253,13 @@ const TABLES: [(&str, &str); 27] = [
     (HEADER, numbers::TAKES_INTEGERS_TO_THEIR_BOUNDS),
     (HEADER, numbers::REFUSES_WORDS_THAT_ARE_NO_VALUES),
     (HEADER, numbers::TAKES_NO_OTHER_VALUE_FOR_AN_INTEGER),
-    (
-        HEADER,
-        repeated::REFUSES_A_POLICY_A_SHUTDOWN_AND_A_QUESTION_IN_A_REPEATED_BLOCK,
-    ),
+    (HEADER, repeated::REFUSES_POLICIES_SHUTDOWNS_AND_QUESTIONS),
     (HEADER, repeated::REFUSES_CALLS_OF_A_REPEATED_BLOCK),
     (HEADER, repeated::TAKES_65536_CALLS_OF_A_PLAN),
-    (HEADER, times::REFUSES_MORE_THAN_THE_LONGEST_OF_EACH_UNIT),
     (CALL_2, times::A_DELAY_IS_53375_DAYS_AT_MOST),
     ("", tops::TAKES_VERSIONS_1_AND_2_AND_REFUSES_AT_THE_TOP),
-    (
-        HEADER_2,
-        unit_faults::TELLS_THE_FIRST_FAULT_OF_A_HEADER_WITH_UNITS,
-    ),
-    (
-        CALL_2,
-        unit_faults::TELLS_THE_FIRST_FAULT_OF_A_CALL_WITH_UNITS,
-    ),
+    (HEADER_2, unit_faults::TELLS_THE_FIRST_FAULT_OF_A_HEADER),
+    (CALL_2, unit_faults::TELLS_THE_FIRST_FAULT_OF_A_CALL),
     (HEADER_2, unit_faults::ORDERS_TIMES_OF_DIFFERENT_UNITS),
     (HEADER, units::A_HEADER_OF_VERSION_1_HAS_ONE_UNIT),
 ];

@@ -49,10 +49,11 @@ fn told(alloc: Global, text: &str) -> Result<String, Fail> {
     }
 }
 
-/// The text of a row: some front and then the lines of the row, with ` / ` between them.
-fn text_of_row(alloc: Global, front: &str, lines: &str) -> Result<String, Fail> {
-    let mut text = String::from_str(alloc, front)?;
-    for line in lines.split(" / ") {
+/// The text of a row: its front and what stands behind it, with ` / ` between two lines.
+fn text_of_row(alloc: Global, front: &str, behind: &str) -> Result<String, Fail> {
+    let row = format!(in alloc; "{front}{behind}")?;
+    let mut text = String::new(alloc);
+    for line in row.split(" / ") {
         text.push_str(line)?;
         text.push('\n')?;
     }
@@ -73,15 +74,39 @@ fn the_page_is_run(rt: HostRuntime) -> Result<(), Fail> {
     Ok(())
 }
 
-/// Tells of each text of a table. A row of the table is what is to be told, then ` | `, and then the text's lines behind `front`,
-/// with ` / ` between them.
-fn tell(rt: &(impl AllocGlobal + Abort), front: &str, table: &str) -> Result<(), Fail> {
+/// Tells of each text of a table. Its first line is its name, then ` | `, and then the front of its texts. Each other line is a row:
+/// what is to be told, then ` | `, and then what stands behind the front.
+fn tell_table(rt: &(impl AllocGlobal + Abort), table: &str) -> Result<(), Fail> {
     let alloc = rt.alloc();
-    for row in table.lines() {
-        let (wanted, lines) = row.split_once(" | ").ok_or("no text")?;
-        let text = text_of_row(alloc, front, lines)?;
+    let (head, rows) = table.split_once('\n').ok_or("no rows")?;
+    let (name, front) = head.split_once(" | ").ok_or("no front")?;
+    if rows.is_empty() {
+        return Err("no rows".into());
+    }
+    for row in rows.lines() {
+        let (wanted, behind) = row.split_once(" | ").ok_or("no text")?;
+        let text = text_of_row(alloc, front, behind)?;
         let told = told(alloc, text.as_str())?;
-        assert_eq!(rt; told.as_str(), wanted, "{row}");
+        assert_eq!(rt; told.as_str(), wanted, "{name}: {row}");
+    }
+    Ok(())
+}
+
+#[test]
+fn each_row_is_told(rt: HostRuntime) -> Result<(), Fail> {
+    for tables in [
+        calls::TABLES,
+        documents::TABLES,
+        headers::TABLES,
+        names::TABLES,
+        orders::TABLES,
+        shown::TABLES,
+        times::TABLES,
+        tops::TABLES,
+    ] {
+        for table in tables.split("\n\n") {
+            tell_table(&rt, table)?;
+        }
     }
     Ok(())
 }

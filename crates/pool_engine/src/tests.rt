@@ -38,6 +38,11 @@ const REPORT: Report = Report {
     lines: 5,
 };
 
+/// What a run did.
+fn report(events: u32, lines: u64) -> Report {
+    Report { events, lines }
+}
+
 /// The answer of a run over memory that reads at most `most` bytes at a time, and what it wrote.
 fn ran<R: Threads + Wait + Sync>(
     rt: &R,
@@ -130,22 +135,10 @@ fn conforms(
 fn writes_the_trace(rt: HostRuntime) -> Result<(), Fail> {
     answers(&rt, ONE_DELAY, 4, CLOCKS, Ok(REPORT), TRACE);
     conforms(&rt, ONE_DELAY, 1, TRACE.as_bytes())?;
-    let none = Report {
-        events: 0,
-        lines: 0,
-    };
-    answers(&rt, ONE_DELAY, 1, "", Ok(none), "");
-    answers(
-        &rt,
-        "version = 1",
-        3,
-        "clock 5\nclock 4\nclock 4611686018427387905\n",
-        Ok(Report {
-            events: 3,
-            lines: 3,
-        }),
-        "5 clock\n5 error backward\n5 error too far\n",
-    );
+    answers(&rt, ONE_DELAY, 1, "", Ok(report(0, 0)), "");
+    let clocks = "clock 5\nclock 4\nclock 4611686018427387905\n";
+    let trace = "5 clock\n5 error backward\n5 error too far\n";
+    answers(&rt, "version = 1", 3, clocks, Ok(report(3, 3)), trace);
     Ok(())
 }
 
@@ -163,10 +156,7 @@ call = [
 ",
         100,
         CLOCKS,
-        Ok(Report {
-            events: 6,
-            lines: 8,
-        }),
+        Ok(report(6, 8)),
         "0 submit 0 schedule due 0
 0 submit 1 schedule due 5
 0 clock
@@ -194,10 +184,7 @@ call = [
 ",
         100,
         "clock 3\nclock 9\n",
-        Ok(Report {
-            events: 6,
-            lines: 10,
-        }),
+        Ok(report(6, 10)),
         "0 submit 0 rate due 1
 3 clock
 3 start 0 task 0 run 0 due 1
@@ -214,31 +201,18 @@ call = [
 
 #[test]
 fn ends_at_the_limit(rt: HostRuntime) {
-    answers(
-        &rt,
-        ONE_DELAY,
-        3,
-        CLOCKS,
-        Err(RunError::Full),
-        "0 submit 0 schedule due 5\n0 clock\n5 clock\n5 start 0 task 0 run 0 due 5\n",
-    );
-    answers(
-        &rt,
-        ONE_DELAY,
-        2,
-        CLOCKS,
-        Err(RunError::Full),
-        "0 submit 0 schedule due 5\n0 clock\n5 clock\n",
-    );
-    answers(&rt, ONE_DELAY, 1, CLOCKS, Err(RunError::Full), "");
-    answers(
-        &rt,
-        ONE_DELAY,
-        2,
-        "clock 0\nclock 5\nclock 5\n",
-        Err(RunError::Full),
-        "",
-    );
+    for (limit, clocks, trace) in [
+        (
+            3u32,
+            CLOCKS,
+            "0 submit 0 schedule due 5\n0 clock\n5 clock\n5 start 0 task 0 run 0 due 5\n",
+        ),
+        (2, CLOCKS, "0 submit 0 schedule due 5\n0 clock\n5 clock\n"),
+        (1, CLOCKS, ""),
+        (2, "clock 0\nclock 5\nclock 5\n", ""),
+    ] {
+        answers(&rt, ONE_DELAY, limit, clocks, Err(RunError::Full), trace);
+    }
 }
 
 #[test]
@@ -259,33 +233,17 @@ fn ends_at_a_line_that_is_no_clock(rt: HostRuntime) {
         for (first, n) in [("", 1u64), ("clock 0\n", 2), ("clock 0\nclock 9\n", 3)] {
             let mut text = String::new(rt.alloc());
             assert!(&rt; text.push_str(first).is_ok() && text.push_str(line).is_ok());
-            answers(
-                &rt,
-                ONE_DELAY,
-                2,
-                text.as_str(),
-                Err(RunError::EventLine(n)),
-                "",
-            );
+            let answer = Err(RunError::EventLine(n));
+            answers(&rt, ONE_DELAY, 2, text.as_str(), answer, "");
         }
     }
     // The first fault of the two is told.
-    answers(
-        &rt,
-        ONE_DELAY,
-        1,
-        "clock 0\nclock 5\nstart 0\n",
-        Err(RunError::Full),
-        "",
-    );
-    answers(
-        &rt,
-        ONE_DELAY,
-        1,
-        "clock 0\nstart 0\nclock 5\n",
-        Err(RunError::EventLine(2)),
-        "",
-    );
+    for (clocks, fault) in [
+        ("clock 0\nclock 5\nstart 0\n", RunError::Full),
+        ("clock 0\nstart 0\nclock 5\n", RunError::EventLine(2)),
+    ] {
+        answers(&rt, ONE_DELAY, 1, clocks, Err(fault), "");
+    }
 }
 
 #[test]

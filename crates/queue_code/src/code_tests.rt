@@ -1,14 +1,19 @@
 //! Tests of codes: cursors and agendas through loops, faults, and listings.
 ghost use Rattle.std.specs.Prelude.{◌≡◌, IfOk};
 
-mod agendas;
+/// A list of instructions by their names.
+macro_rules! instrs {
+    ($($name:ident $(($($value:expr),*))?),*) => {
+        [$(Instr::$name $(($($value),*))?),*]
+    };
+}
+
 mod faults;
 mod listings;
 mod usage;
 mod walks;
 
 use crate::{Code, CodeFault, Instr};
-use sched_time::Timing;
 use std::alloc::Global;
 
 /// The code of some instructions.
@@ -18,12 +23,3 @@ fn code_of(alloc: Global, instrs: &[Instr]) -> Result<Code<Global>, CodeFault>
     let instrs = Vec::from_slice(alloc, instrs)?;
     Code::check(alloc, instrs)
 }
-
-/// A loop of three iterations with a submission and a cancel of it.
-const THREE_TIMES: [Instr; 5] = [
-    Instr::Loop(3, 10),
-    Instr::Submit(100, Timing::Once, 50),
-    Instr::CancelHere(104, 0),
-    Instr::EndLoop,
-    Instr::Halt,
-];

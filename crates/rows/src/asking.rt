@@ -3,7 +3,6 @@ ghost use Rattle.std.specs.Prelude.{◌<◌, length};
 
 use crate::Row;
 
-/// The rows of this module.
 const ALL: &[Row] = &[
     AN_EXECUTOR_IS_TERMINATED_ONCE_IT_IS_SHUT_AND_NOTHING_IS_LEFT,
     A_KEPT_TASK_AND_A_RUN_UNDER_WAY_ARE_BOTH_COUNTED,

@@ -3,14 +3,43 @@ ghost use Rattle.std.specs.Prelude.{◌<◌, length};
 
 use crate::Row;
 
-/// The rows of this module.
 const ALL: &[Row] = &[
     AN_ILLEGAL_TASK_HAS_A_NUMBER_AND_NO_RUN,
     A_CANCEL_OF_A_RUN,
-    A_FAILURE,
-    NO_SUBMISSION_YET,
+    // A cancel of a failed task has no effect.
+    Row {
+        name: "a failure",
+        plan: "version = 1\nblock = [{ call = [{ op = 'fixed', name = 'a', first = 0, delay = 5 }] }]",
+        workers: 1,
+        events: "clock 0\nstart 0\nfinish 0 fail 3\ncancel 0\nclock 100\nstart 0\n",
+        trace: "0 submit 0 fixed due 0\n0 clock\n0 start 0 task 0 run 0 due 0\n\
+                0 finish 0 task 0 run 0 failed 3\n0 outside 0 no\n\
+                100 clock\n100 start 0 idle\n",
+    },
+    // A task that was not submitted is not cancelled.
+    Row {
+        name: "no submission yet",
+        plan: "version = 1\nblock = [{ call = [{ at = 10, op = 'schedule', name = 'a', delay = 0 }] }]",
+        workers: 1,
+        events: "cancel 0\n",
+        trace: "0 outside 0 none\n",
+    },
     THE_PLAN_CANCELS,
-    A_CANCEL_OF_A_KEPT_TASK_HAS_NO_EFFECT,
+    Row {
+        name: "a cancel of a kept task has no effect",
+        plan: "version = 1\nblock = [{ call = [\
+               { op = 'schedule', name = 'a', delay = 10 },\
+               { at = 1, op = 'cancel', name = 'a' },\
+               { at = 2, op = 'policy', which = 'remove', value = true },\
+               { at = 3, op = 'cancel', name = 'a' }, { at = 3, op = 'ask' }] }]",
+        workers: 1,
+        events: "clock 3\ncancel 0\n",
+        trace: "0 submit 0 schedule due 10\n\
+                1 cancel 0 yes\n\
+                2 policy remove true\n\
+                3 cancel 0 no\n3 ask queue 1 running 0 shutdown no terminated no\n3 clock\n\
+                3 outside 0 no\n",
+    },
 ];
 
 /// The rows of this module.
@@ -43,26 +72,6 @@ pub const A_CANCEL_OF_A_RUN: Row = Row {
             9 clock\n9 start 0 idle\n",
 };
 
-/// A cancel of a failed task has no effect.
-pub const A_FAILURE: Row = Row {
-    name: "a failure",
-    plan: "version = 1\nblock = [{ call = [{ op = 'fixed', name = 'a', first = 0, delay = 5 }] }]",
-    workers: 1,
-    events: "clock 0\nstart 0\nfinish 0 fail 3\ncancel 0\nclock 100\nstart 0\n",
-    trace: "0 submit 0 fixed due 0\n0 clock\n0 start 0 task 0 run 0 due 0\n\
-            0 finish 0 task 0 run 0 failed 3\n0 outside 0 no\n\
-            100 clock\n100 start 0 idle\n",
-};
-
-/// A task that was not submitted is not cancelled.
-pub const NO_SUBMISSION_YET: Row = Row {
-    name: "no submission yet",
-    plan: "version = 1\nblock = [{ call = [{ at = 10, op = 'schedule', name = 'a', delay = 0 }] }]",
-    workers: 1,
-    events: "cancel 0\n",
-    trace: "0 outside 0 none\n",
-};
-
 pub const THE_PLAN_CANCELS: Row = Row {
     name: "the plan cancels",
     plan: "version = 1\nblock = [{ call = [\
@@ -73,20 +82,4 @@ pub const THE_PLAN_CANCELS: Row = Row {
     events: "clock 1\nstart 0\n",
     trace: "0 refuse 0 illegal\n0 cancel 0 none\n0 submit 1 schedule due 1\n\
             1 cancel 1 yes\n1 cancel 1 no\n1 clock\n1 start 0 idle\n",
-};
-
-pub const A_CANCEL_OF_A_KEPT_TASK_HAS_NO_EFFECT: Row = Row {
-    name: "a cancel of a kept task has no effect",
-    plan: "version = 1\nblock = [{ call = [\
-           { op = 'schedule', name = 'a', delay = 10 },\
-           { at = 1, op = 'cancel', name = 'a' },\
-           { at = 2, op = 'policy', which = 'remove', value = true },\
-           { at = 3, op = 'cancel', name = 'a' }, { at = 3, op = 'ask' }] }]",
-    workers: 1,
-    events: "clock 3\ncancel 0\n",
-    trace: "0 submit 0 schedule due 10\n\
-            1 cancel 0 yes\n\
-            2 policy remove true\n\
-            3 cancel 0 no\n3 ask queue 1 running 0 shutdown no terminated no\n3 clock\n\
-            3 outside 0 no\n",
 };

@@ -12,8 +12,9 @@
 //!
 //! # Behaviour
 //!
-//! A module is a topic, a constant of it a [`Row`], and its `all` lists them. [`topic`] gives the rows of each. What is true of one
-//! row has to be true of each: one test goes over all of them.
+//! A module is a topic, and its `all` lists its rows. [`topic`] gives those of each. A [`Row`] that a test or a page asks for by
+//! itself is a constant; each other one stands in the list. What is true of one row has to be true of each: one test goes over all
+//! of them.
 //!
 //! In the sources a line of a text is a moment, as far as it fits.
 //!

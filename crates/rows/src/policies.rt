@@ -3,21 +3,167 @@ ghost use Rattle.std.specs.Prelude.{◌<◌, length};
 
 use crate::Row;
 
-/// The rows of this module.
 const ALL: &[Row] = &[
     POLICIES_THAT_SWEEP,
     CONTINUE_SWEEPS_WHERE_IT_IS_FALSE_AGAIN,
-    CONTINUE_DOES_NOT_SWEEP_WHERE_IT_IS_TRUE_AGAIN,
-    EXECUTE_SWEEPS_WHERE_IT_IS_FALSE_AGAIN,
-    EXECUTE_DOES_NOT_SWEEP_WHERE_IT_IS_TRUE_AGAIN,
-    REMOVE_DOES_NOT_SWEEP_WHERE_IT_IS_FALSE_AGAIN,
-    REMOVE_DOES_NOT_SWEEP_WHERE_IT_IS_TRUE_AGAIN,
+    Row {
+        name: "continue does not sweep where it is true again",
+        plan: "version = 1\nblock = [{ call = [\
+               { op = 'schedule', name = 'a', delay = 0 },\
+               { at = 1, op = 'policy', which = 'continue', value = true },\
+               { at = 1, op = 'ask' },\
+               { at = 2, op = 'shutdown' },\
+               { at = 3, op = 'cancel', name = 'a' }, { at = 3, op = 'ask' },\
+               { at = 4, op = 'policy', which = 'continue', value = true },\
+               { at = 4, op = 'ask' }] }]",
+        workers: 1,
+        events: "clock 4\n",
+        trace: "0 submit 0 schedule due 0\n\
+                1 policy continue true\n1 ask queue 1 running 0 shutdown no terminated no\n\
+                2 shutdown\n\
+                3 cancel 0 yes\n3 ask queue 1 running 0 shutdown yes terminated no\n\
+                4 policy continue true\n4 ask queue 1 running 0 shutdown yes terminated no\n\
+                4 clock\n",
+    },
+    Row {
+        name: "execute sweeps where it is false again",
+        plan: "version = 1\nblock = [{ call = [\
+               { op = 'schedule', name = 'a', delay = 0 },\
+               { at = 1, op = 'policy', which = 'execute', value = false },\
+               { at = 1, op = 'ask' },\
+               { at = 2, op = 'shutdown' },\
+               { at = 3, op = 'cancel', name = 'a' }, { at = 3, op = 'ask' },\
+               { at = 4, op = 'policy', which = 'execute', value = false },\
+               { at = 4, op = 'ask' }] }]",
+        workers: 1,
+        events: "clock 4\n",
+        trace: "0 submit 0 schedule due 0\n\
+                1 policy execute false\n1 ask queue 1 running 0 shutdown no terminated no\n\
+                2 shutdown\n\
+                3 cancel 0 yes\n3 ask queue 1 running 0 shutdown yes terminated no\n\
+                4 policy execute false\n4 ask queue 0 running 0 shutdown yes terminated yes\n\
+                4 clock\n",
+    },
+    Row {
+        name: "execute does not sweep where it is true again",
+        plan: "version = 1\nblock = [{ call = [\
+               { op = 'schedule', name = 'a', delay = 0 },\
+               { at = 1, op = 'policy', which = 'execute', value = true }, { at = 1, op = 'ask' },\
+               { at = 2, op = 'shutdown' },\
+               { at = 3, op = 'cancel', name = 'a' }, { at = 3, op = 'ask' },\
+               { at = 4, op = 'policy', which = 'execute', value = true },\
+               { at = 4, op = 'ask' }] }]",
+        workers: 1,
+        events: "clock 4\n",
+        trace: "0 submit 0 schedule due 0\n\
+                1 policy execute true\n1 ask queue 1 running 0 shutdown no terminated no\n\
+                2 shutdown\n\
+                3 cancel 0 yes\n3 ask queue 1 running 0 shutdown yes terminated no\n\
+                4 policy execute true\n4 ask queue 1 running 0 shutdown yes terminated no\n\
+                4 clock\n",
+    },
+    Row {
+        name: "remove does not sweep where it is false again",
+        plan: "version = 1\nblock = [{ call = [\
+               { op = 'schedule', name = 'a', delay = 0 },\
+               { at = 1, op = 'policy', which = 'remove', value = false }, { at = 1, op = 'ask' },\
+               { at = 2, op = 'shutdown' },\
+               { at = 3, op = 'cancel', name = 'a' }, { at = 3, op = 'ask' },\
+               { at = 4, op = 'policy', which = 'remove', value = false },\
+               { at = 4, op = 'ask' }] }]",
+        workers: 1,
+        events: "clock 4\n",
+        trace: "0 submit 0 schedule due 0\n\
+                1 policy remove false\n1 ask queue 1 running 0 shutdown no terminated no\n\
+                2 shutdown\n\
+                3 cancel 0 yes\n3 ask queue 1 running 0 shutdown yes terminated no\n\
+                4 policy remove false\n4 ask queue 1 running 0 shutdown yes terminated no\n\
+                4 clock\n",
+    },
+    Row {
+        name: "remove does not sweep where it is true again",
+        plan: "version = 1\nblock = [{ call = [\
+               { op = 'schedule', name = 'a', delay = 0 },\
+               { at = 1, op = 'policy', which = 'remove', value = true }, { at = 1, op = 'ask' },\
+               { at = 2, op = 'shutdown' },\
+               { at = 3, op = 'cancel', name = 'a' }, { at = 3, op = 'ask' },\
+               { at = 4, op = 'policy', which = 'remove', value = true },\
+               { at = 4, op = 'ask' }] }]",
+        workers: 1,
+        events: "clock 4\n",
+        trace: "0 submit 0 schedule due 0\n\
+                1 policy remove true\n1 ask queue 1 running 0 shutdown no terminated no\n\
+                2 shutdown\n\
+                3 cancel 0 yes\n3 ask queue 0 running 0 shutdown yes terminated yes\n\
+                4 policy remove true\n4 ask queue 0 running 0 shutdown yes terminated yes\n\
+                4 clock\n",
+    },
     A_SHUTDOWN_WHERE_CONTINUE_IS_FALSE,
-    A_SHUTDOWN_WHERE_CONTINUE_IS_TRUE,
-    A_SHUTDOWN_WHERE_EXECUTE_IS_FALSE,
-    A_SHUTDOWN_WHERE_EXECUTE_IS_TRUE,
-    A_SHUTDOWN_WHERE_REMOVE_IS_FALSE,
-    A_SHUTDOWN_WHERE_REMOVE_IS_TRUE,
+    Row {
+        name: "a shutdown where continue is true",
+        plan: "version = 1\nblock = [{ call = [\
+               { op = 'schedule', name = 'a', delay = 9 },\
+               { op = 'fixed', name = 'b', first = 9, delay = 9 },\
+               { at = 1, op = 'policy', which = 'continue', value = true },\
+               { at = 2, op = 'shutdown' }] }]",
+        workers: 1,
+        events: "clock 2\n",
+        trace: "0 submit 0 schedule due 9\n0 submit 1 fixed due 9\n\
+                1 policy continue true\n\
+                2 shutdown\n2 clock\n",
+    },
+    Row {
+        name: "a shutdown where execute is false",
+        plan: "version = 1\nblock = [{ call = [\
+               { op = 'schedule', name = 'a', delay = 9 },\
+               { op = 'fixed', name = 'b', first = 9, delay = 9 },\
+               { at = 1, op = 'policy', which = 'execute', value = false },\
+               { at = 2, op = 'shutdown' }] }]",
+        workers: 1,
+        events: "clock 2\n",
+        trace: "0 submit 0 schedule due 9\n0 submit 1 fixed due 9\n\
+                1 policy execute false\n\
+                2 shutdown\n2 end 0\n2 end 1\n2 clock\n",
+    },
+    Row {
+        name: "a shutdown where execute is true",
+        plan: "version = 1\nblock = [{ call = [\
+               { op = 'schedule', name = 'a', delay = 9 },\
+               { op = 'fixed', name = 'b', first = 9, delay = 9 },\
+               { at = 1, op = 'policy', which = 'execute', value = true },\
+               { at = 2, op = 'shutdown' }] }]",
+        workers: 1,
+        events: "clock 2\n",
+        trace: "0 submit 0 schedule due 9\n0 submit 1 fixed due 9\n\
+                1 policy execute true\n\
+                2 shutdown\n2 end 1\n2 clock\n",
+    },
+    Row {
+        name: "a shutdown where remove is false",
+        plan: "version = 1\nblock = [{ call = [\
+               { op = 'schedule', name = 'a', delay = 9 },\
+               { op = 'fixed', name = 'b', first = 9, delay = 9 },\
+               { at = 1, op = 'policy', which = 'remove', value = false },\
+               { at = 2, op = 'shutdown' }] }]",
+        workers: 1,
+        events: "clock 2\n",
+        trace: "0 submit 0 schedule due 9\n0 submit 1 fixed due 9\n\
+                1 policy remove false\n\
+                2 shutdown\n2 end 1\n2 clock\n",
+    },
+    Row {
+        name: "a shutdown where remove is true",
+        plan: "version = 1\nblock = [{ call = [\
+               { op = 'schedule', name = 'a', delay = 9 },\
+               { op = 'fixed', name = 'b', first = 9, delay = 9 },\
+               { at = 1, op = 'policy', which = 'remove', value = true },\
+               { at = 2, op = 'shutdown' }] }]",
+        workers: 1,
+        events: "clock 2\n",
+        trace: "0 submit 0 schedule due 9\n0 submit 1 fixed due 9\n\
+                1 policy remove true\n\
+                2 shutdown\n2 end 1\n2 clock\n",
+    },
 ];
 
 /// The rows of this module.
@@ -70,103 +216,6 @@ pub const CONTINUE_SWEEPS_WHERE_IT_IS_FALSE_AGAIN: Row = Row {
             4 clock\n",
 };
 
-pub const CONTINUE_DOES_NOT_SWEEP_WHERE_IT_IS_TRUE_AGAIN: Row = Row {
-    name: "continue does not sweep where it is true again",
-    plan: "version = 1\nblock = [{ call = [\
-           { op = 'schedule', name = 'a', delay = 0 },\
-           { at = 1, op = 'policy', which = 'continue', value = true },\
-           { at = 1, op = 'ask' },\
-           { at = 2, op = 'shutdown' },\
-           { at = 3, op = 'cancel', name = 'a' }, { at = 3, op = 'ask' },\
-           { at = 4, op = 'policy', which = 'continue', value = true },\
-           { at = 4, op = 'ask' }] }]",
-    workers: 1,
-    events: "clock 4\n",
-    trace: "0 submit 0 schedule due 0\n\
-            1 policy continue true\n1 ask queue 1 running 0 shutdown no terminated no\n\
-            2 shutdown\n\
-            3 cancel 0 yes\n3 ask queue 1 running 0 shutdown yes terminated no\n\
-            4 policy continue true\n4 ask queue 1 running 0 shutdown yes terminated no\n\
-            4 clock\n",
-};
-
-pub const EXECUTE_SWEEPS_WHERE_IT_IS_FALSE_AGAIN: Row = Row {
-    name: "execute sweeps where it is false again",
-    plan: "version = 1\nblock = [{ call = [\
-           { op = 'schedule', name = 'a', delay = 0 },\
-           { at = 1, op = 'policy', which = 'execute', value = false },\
-           { at = 1, op = 'ask' },\
-           { at = 2, op = 'shutdown' },\
-           { at = 3, op = 'cancel', name = 'a' }, { at = 3, op = 'ask' },\
-           { at = 4, op = 'policy', which = 'execute', value = false },\
-           { at = 4, op = 'ask' }] }]",
-    workers: 1,
-    events: "clock 4\n",
-    trace: "0 submit 0 schedule due 0\n\
-            1 policy execute false\n1 ask queue 1 running 0 shutdown no terminated no\n\
-            2 shutdown\n\
-            3 cancel 0 yes\n3 ask queue 1 running 0 shutdown yes terminated no\n\
-            4 policy execute false\n4 ask queue 0 running 0 shutdown yes terminated yes\n\
-            4 clock\n",
-};
-
-pub const EXECUTE_DOES_NOT_SWEEP_WHERE_IT_IS_TRUE_AGAIN: Row = Row {
-    name: "execute does not sweep where it is true again",
-    plan: "version = 1\nblock = [{ call = [\
-           { op = 'schedule', name = 'a', delay = 0 },\
-           { at = 1, op = 'policy', which = 'execute', value = true }, { at = 1, op = 'ask' },\
-           { at = 2, op = 'shutdown' },\
-           { at = 3, op = 'cancel', name = 'a' }, { at = 3, op = 'ask' },\
-           { at = 4, op = 'policy', which = 'execute', value = true },\
-           { at = 4, op = 'ask' }] }]",
-    workers: 1,
-    events: "clock 4\n",
-    trace: "0 submit 0 schedule due 0\n\
-            1 policy execute true\n1 ask queue 1 running 0 shutdown no terminated no\n\
-            2 shutdown\n\
-            3 cancel 0 yes\n3 ask queue 1 running 0 shutdown yes terminated no\n\
-            4 policy execute true\n4 ask queue 1 running 0 shutdown yes terminated no\n\
-            4 clock\n",
-};
-
-pub const REMOVE_DOES_NOT_SWEEP_WHERE_IT_IS_FALSE_AGAIN: Row = Row {
-    name: "remove does not sweep where it is false again",
-    plan: "version = 1\nblock = [{ call = [\
-           { op = 'schedule', name = 'a', delay = 0 },\
-           { at = 1, op = 'policy', which = 'remove', value = false }, { at = 1, op = 'ask' },\
-           { at = 2, op = 'shutdown' },\
-           { at = 3, op = 'cancel', name = 'a' }, { at = 3, op = 'ask' },\
-           { at = 4, op = 'policy', which = 'remove', value = false },\
-           { at = 4, op = 'ask' }] }]",
-    workers: 1,
-    events: "clock 4\n",
-    trace: "0 submit 0 schedule due 0\n\
-            1 policy remove false\n1 ask queue 1 running 0 shutdown no terminated no\n\
-            2 shutdown\n\
-            3 cancel 0 yes\n3 ask queue 1 running 0 shutdown yes terminated no\n\
-            4 policy remove false\n4 ask queue 1 running 0 shutdown yes terminated no\n\
-            4 clock\n",
-};
-
-pub const REMOVE_DOES_NOT_SWEEP_WHERE_IT_IS_TRUE_AGAIN: Row = Row {
-    name: "remove does not sweep where it is true again",
-    plan: "version = 1\nblock = [{ call = [\
-           { op = 'schedule', name = 'a', delay = 0 },\
-           { at = 1, op = 'policy', which = 'remove', value = true }, { at = 1, op = 'ask' },\
-           { at = 2, op = 'shutdown' },\
-           { at = 3, op = 'cancel', name = 'a' }, { at = 3, op = 'ask' },\
-           { at = 4, op = 'policy', which = 'remove', value = true },\
-           { at = 4, op = 'ask' }] }]",
-    workers: 1,
-    events: "clock 4\n",
-    trace: "0 submit 0 schedule due 0\n\
-            1 policy remove true\n1 ask queue 1 running 0 shutdown no terminated no\n\
-            2 shutdown\n\
-            3 cancel 0 yes\n3 ask queue 0 running 0 shutdown yes terminated yes\n\
-            4 policy remove true\n4 ask queue 0 running 0 shutdown yes terminated yes\n\
-            4 clock\n",
-};
-
 pub const A_SHUTDOWN_WHERE_CONTINUE_IS_FALSE: Row = Row {
     name: "a shutdown where continue is false",
     plan: "version = 1\nblock = [{ call = [\
@@ -178,75 +227,5 @@ pub const A_SHUTDOWN_WHERE_CONTINUE_IS_FALSE: Row = Row {
     events: "clock 2\n",
     trace: "0 submit 0 schedule due 9\n0 submit 1 fixed due 9\n\
             1 policy continue false\n\
-            2 shutdown\n2 end 1\n2 clock\n",
-};
-
-pub const A_SHUTDOWN_WHERE_CONTINUE_IS_TRUE: Row = Row {
-    name: "a shutdown where continue is true",
-    plan: "version = 1\nblock = [{ call = [\
-           { op = 'schedule', name = 'a', delay = 9 },\
-           { op = 'fixed', name = 'b', first = 9, delay = 9 },\
-           { at = 1, op = 'policy', which = 'continue', value = true },\
-           { at = 2, op = 'shutdown' }] }]",
-    workers: 1,
-    events: "clock 2\n",
-    trace: "0 submit 0 schedule due 9\n0 submit 1 fixed due 9\n\
-            1 policy continue true\n\
-            2 shutdown\n2 clock\n",
-};
-
-pub const A_SHUTDOWN_WHERE_EXECUTE_IS_FALSE: Row = Row {
-    name: "a shutdown where execute is false",
-    plan: "version = 1\nblock = [{ call = [\
-           { op = 'schedule', name = 'a', delay = 9 },\
-           { op = 'fixed', name = 'b', first = 9, delay = 9 },\
-           { at = 1, op = 'policy', which = 'execute', value = false },\
-           { at = 2, op = 'shutdown' }] }]",
-    workers: 1,
-    events: "clock 2\n",
-    trace: "0 submit 0 schedule due 9\n0 submit 1 fixed due 9\n\
-            1 policy execute false\n\
-            2 shutdown\n2 end 0\n2 end 1\n2 clock\n",
-};
-
-pub const A_SHUTDOWN_WHERE_EXECUTE_IS_TRUE: Row = Row {
-    name: "a shutdown where execute is true",
-    plan: "version = 1\nblock = [{ call = [\
-           { op = 'schedule', name = 'a', delay = 9 },\
-           { op = 'fixed', name = 'b', first = 9, delay = 9 },\
-           { at = 1, op = 'policy', which = 'execute', value = true },\
-           { at = 2, op = 'shutdown' }] }]",
-    workers: 1,
-    events: "clock 2\n",
-    trace: "0 submit 0 schedule due 9\n0 submit 1 fixed due 9\n\
-            1 policy execute true\n\
-            2 shutdown\n2 end 1\n2 clock\n",
-};
-
-pub const A_SHUTDOWN_WHERE_REMOVE_IS_FALSE: Row = Row {
-    name: "a shutdown where remove is false",
-    plan: "version = 1\nblock = [{ call = [\
-           { op = 'schedule', name = 'a', delay = 9 },\
-           { op = 'fixed', name = 'b', first = 9, delay = 9 },\
-           { at = 1, op = 'policy', which = 'remove', value = false },\
-           { at = 2, op = 'shutdown' }] }]",
-    workers: 1,
-    events: "clock 2\n",
-    trace: "0 submit 0 schedule due 9\n0 submit 1 fixed due 9\n\
-            1 policy remove false\n\
-            2 shutdown\n2 end 1\n2 clock\n",
-};
-
-pub const A_SHUTDOWN_WHERE_REMOVE_IS_TRUE: Row = Row {
-    name: "a shutdown where remove is true",
-    plan: "version = 1\nblock = [{ call = [\
-           { op = 'schedule', name = 'a', delay = 9 },\
-           { op = 'fixed', name = 'b', first = 9, delay = 9 },\
-           { at = 1, op = 'policy', which = 'remove', value = true },\
-           { at = 2, op = 'shutdown' }] }]",
-    workers: 1,
-    events: "clock 2\n",
-    trace: "0 submit 0 schedule due 9\n0 submit 1 fixed due 9\n\
-            1 policy remove true\n\
             2 shutdown\n2 end 1\n2 clock\n",
 };

@@ -3,19 +3,65 @@ ghost use Rattle.std.specs.Prelude.{◌<◌, length};
 
 use crate::Row;
 
-/// The rows of this module.
 const ALL: &[Row] = &[
     ONE_DELAY,
-    CALLS_IN_A_JUMP,
+    // Calls that a clock skips are made at their own moments.
+    Row {
+        name: "calls in a jump",
+        plan: "version = 1\nblock = [{ call = [\
+               { at = 30, op = 'schedule', name = 'a', delay = 0 },\
+               { at = 50, op = 'schedule', name = 'b', delay = 0 }] }]",
+        workers: 1,
+        events: "clock 0\nclock 100\n",
+        trace: "0 clock\n30 submit 0 schedule due 30\n50 submit 1 schedule due 50\n100 clock\n",
+    },
     ERRORS,
-    A_LATE_RATE,
-    A_FIXED_DELAY,
+    // A late task at a fixed rate keeps its due moments.
+    Row {
+        name: "a late rate",
+        plan: "version = 1\nblock = [{ call = [\
+               { op = 'rate', name = 'a', first = 10, period = 10 }] }]",
+        workers: 1,
+        events: "clock 25\nstart 0\nfinish 0 ok 1\nstart 0\n",
+        trace: "0 submit 0 rate due 10\n\
+                25 clock\n25 start 0 task 0 run 0 due 10\n25 finish 0 task 0 run 0 again due 20\n\
+                25 start 0 task 0 run 1 due 20\n",
+    },
+    // A fixed delay counts from the finish.
+    Row {
+        name: "a fixed delay",
+        plan: "version = 1\nblock = [{ call = [\
+               { op = 'fixed', name = 'a', first = 10, delay = 10 }] }]",
+        workers: 1,
+        events: "clock 35\nstart 0\nclock 38\nfinish 0 ok 1\n",
+        trace: "0 submit 0 fixed due 10\n\
+                35 clock\n35 start 0 task 0 run 0 due 10\n\
+                38 clock\n38 finish 0 task 0 run 0 again due 48\n",
+    },
     TIES,
     NO_OVERLAP,
     NOTHING_RUNS_AFTER_A_FAILURE,
-    THE_MOST_WORKERS,
-    NO_CALLS,
-    NOTHING_HAPPENS,
+    Row {
+        name: "the most workers",
+        plan: "version = 1\nblock = [{ call = [{ op = 'schedule', name = 'a', delay = 0 }] }]",
+        workers: 64,
+        events: "clock 0\nstart 63\nstart 64\n",
+        trace: "0 submit 0 schedule due 0\n0 clock\n0 start 63 task 0 run 0 due 0\n0 error no worker\n",
+    },
+    Row {
+        name: "no calls",
+        plan: "version = 1",
+        workers: 1,
+        events: "clock 3\nstart 0\ncancel 0\n",
+        trace: "3 clock\n3 start 0 idle\n3 error no task\n",
+    },
+    Row {
+        name: "nothing happens",
+        plan: "version = 1",
+        workers: 1,
+        events: "",
+        trace: "",
+    },
     TWO_WORKERS,
 ];
 
@@ -37,17 +83,6 @@ pub const ONE_DELAY: Row = Row {
             5 clock\n5 start 0 task 0 run 0 due 5\n5 finish 0 task 0 run 0 done 7\n",
 };
 
-/// Calls that a clock skips are made at their own moments.
-pub const CALLS_IN_A_JUMP: Row = Row {
-    name: "calls in a jump",
-    plan: "version = 1\nblock = [{ call = [\
-           { at = 30, op = 'schedule', name = 'a', delay = 0 },\
-           { at = 50, op = 'schedule', name = 'b', delay = 0 }] }]",
-    workers: 1,
-    events: "clock 0\nclock 100\n",
-    trace: "0 clock\n30 submit 0 schedule due 30\n50 submit 1 schedule due 50\n100 clock\n",
-};
-
 /// Wrong events have no effect.
 pub const ERRORS: Row = Row {
     name: "errors",
@@ -59,30 +94,6 @@ pub const ERRORS: Row = Row {
             5 clock\n5 error backward\n5 error no worker\n5 start 0 task 0 run 0 due 0\n\
             5 error busy\n5 finish 0 task 0 run 0 done 2\n5 error not running\n\
             5 error no task\n",
-};
-
-/// A late task at a fixed rate keeps its due moments.
-pub const A_LATE_RATE: Row = Row {
-    name: "a late rate",
-    plan: "version = 1\nblock = [{ call = [\
-           { op = 'rate', name = 'a', first = 10, period = 10 }] }]",
-    workers: 1,
-    events: "clock 25\nstart 0\nfinish 0 ok 1\nstart 0\n",
-    trace: "0 submit 0 rate due 10\n\
-            25 clock\n25 start 0 task 0 run 0 due 10\n25 finish 0 task 0 run 0 again due 20\n\
-            25 start 0 task 0 run 1 due 20\n",
-};
-
-/// A fixed delay counts from the finish.
-pub const A_FIXED_DELAY: Row = Row {
-    name: "a fixed delay",
-    plan: "version = 1\nblock = [{ call = [\
-           { op = 'fixed', name = 'a', first = 10, delay = 10 }] }]",
-    workers: 1,
-    events: "clock 35\nstart 0\nclock 38\nfinish 0 ok 1\n",
-    trace: "0 submit 0 fixed due 10\n\
-            35 clock\n35 start 0 task 0 run 0 due 10\n\
-            38 clock\n38 finish 0 task 0 run 0 again due 48\n",
 };
 
 /// A task that runs again keeps its place in ties.
@@ -119,30 +130,6 @@ pub const NOTHING_RUNS_AFTER_A_FAILURE: Row = Row {
     trace: "0 submit 0 fixed due 0\n0 clock\n0 start 0 task 0 run 0 due 0\n\
             0 finish 0 task 0 run 0 failed 3\n\
             100 clock\n100 start 0 idle\n",
-};
-
-pub const THE_MOST_WORKERS: Row = Row {
-    name: "the most workers",
-    plan: "version = 1\nblock = [{ call = [{ op = 'schedule', name = 'a', delay = 0 }] }]",
-    workers: 64,
-    events: "clock 0\nstart 63\nstart 64\n",
-    trace: "0 submit 0 schedule due 0\n0 clock\n0 start 63 task 0 run 0 due 0\n0 error no worker\n",
-};
-
-pub const NO_CALLS: Row = Row {
-    name: "no calls",
-    plan: "version = 1",
-    workers: 1,
-    events: "clock 3\nstart 0\ncancel 0\n",
-    trace: "3 clock\n3 start 0 idle\n3 error no task\n",
-};
-
-pub const NOTHING_HAPPENS: Row = Row {
-    name: "nothing happens",
-    plan: "version = 1",
-    workers: 1,
-    events: "",
-    trace: "",
 };
 
 /// A worker that waits is named by the least number.

@@ -3,20 +3,131 @@ ghost use Rattle.std.specs.Prelude.{◌<◌, length};
 
 use crate::Row;
 
-/// The rows of this module.
 const ALL: &[Row] = &[
     A_SHUTDOWN_AT_ONCE,
     A_SHUTDOWN_AT_ONCE_AFTER_A_SHUTDOWN,
     ALL_THAT_A_SHUTDOWN_LEAVES_END,
-    AN_EXECUTOR_IS_SHUT_AT_ONCE_BEFORE_ANY_TASK,
+    Row {
+        name: "an executor is shut at once before any task",
+        plan: "version = 1\nblock = [{ call = [\
+               { op = 'shutdown_now' }, { op = 'ask' },\
+               { at = 1, op = 'schedule', name = 'a', delay = 0 },\
+               { at = 1, op = 'rate', name = 'b', first = 0, period = 0 },\
+               { at = 1, op = 'rate', name = 'c', first = 0, period = 1 },\
+               { at = 1, op = 'fixed', name = 'd', first = 0, delay = 1 },\
+               { at = 1, op = 'ask' }] }]",
+        workers: 1,
+        events: "clock 1\nstart 0\ncancel 0\n",
+        trace: "0 shutdown now\n0 ask queue 0 running 0 shutdown yes terminated yes\n\
+                1 refuse 0 rejected\n1 refuse 1 illegal\n1 refuse 2 rejected\n1 refuse 3 rejected\n\
+                1 ask queue 0 running 0 shutdown yes terminated yes\n1 clock\n1 start 0 idle\n\
+                1 outside 0 none\n",
+    },
     A_SECOND_ONE_ENDS_NOTHING_MORE,
     KEPT_TASKS_LEAVE,
-    RUNS_UNDER_WAY_GO_ON_TO_THEIR_ENDS_WHERE_CONTINUE_IS_FALSE,
-    RUNS_UNDER_WAY_GO_ON_TO_THEIR_ENDS_WHERE_CONTINUE_IS_TRUE,
+    Row {
+        name: "runs under way go on to their ends where continue is false",
+        plan: "version = 1\nblock = [{ call = [\
+               { op = 'schedule', name = 'a', delay = 0 },\
+               { op = 'schedule', name = 'b', delay = 0 },\
+               { op = 'rate', name = 'c', first = 0, period = 5 },\
+               { op = 'rate', name = 'd', first = 0, period = 5 },\
+               { op = 'fixed', name = 'e', first = 0, delay = 5 },\
+               { op = 'fixed', name = 'f', first = 0, delay = 5 },\
+               { op = 'policy', which = 'continue', value = false },\
+               { at = 1, op = 'shutdown_now' },\
+               { at = 1, op = 'policy', which = 'continue', value = false },\
+               { at = 1, op = 'ask' },\
+               { at = 9, op = 'ask' }] }]",
+        workers: 6,
+        events: "clock 0\nstart 0\nstart 1\nstart 2\nstart 3\nstart 4\nstart 5\nclock 1\n\
+                 finish 0 ok 2\nfinish 1 fail 3\nfinish 2 ok 2\nfinish 3 fail 3\nfinish 4 ok 2\n\
+                 finish 5 fail 3\ncancel 0\ncancel 1\ncancel 2\ncancel 3\ncancel 4\ncancel 5\n\
+                 clock 9\nstart 0\n",
+        trace: "0 submit 0 schedule due 0\n0 submit 1 schedule due 0\n0 submit 2 rate due 0\n\
+                0 submit 3 rate due 0\n0 submit 4 fixed due 0\n0 submit 5 fixed due 0\n\
+                0 policy continue false\n0 clock\n0 start 0 task 0 run 0 due 0\n\
+                0 start 1 task 1 run 0 due 0\n0 start 2 task 2 run 0 due 0\n\
+                0 start 3 task 3 run 0 due 0\n0 start 4 task 4 run 0 due 0\n\
+                0 start 5 task 5 run 0 due 0\n\
+                1 shutdown now\n1 policy continue false\n\
+                1 ask queue 0 running 6 shutdown yes terminated no\n1 clock\n\
+                1 finish 0 task 0 run 0 done 2\n1 finish 1 task 1 run 0 failed 3\n\
+                1 finish 2 task 2 run 0 ended\n1 finish 3 task 3 run 0 failed 3\n\
+                1 finish 4 task 4 run 0 ended\n1 finish 5 task 5 run 0 failed 3\n1 outside 0 no\n\
+                1 outside 1 no\n1 outside 2 no\n1 outside 3 no\n1 outside 4 no\n1 outside 5 no\n\
+                9 ask queue 0 running 0 shutdown yes terminated yes\n9 clock\n9 start 0 idle\n",
+    },
+    Row {
+        name: "runs under way go on to their ends where continue is true",
+        plan: "version = 1\nblock = [{ call = [\
+               { op = 'schedule', name = 'a', delay = 0 },\
+               { op = 'schedule', name = 'b', delay = 0 },\
+               { op = 'rate', name = 'c', first = 0, period = 5 },\
+               { op = 'rate', name = 'd', first = 0, period = 5 },\
+               { op = 'fixed', name = 'e', first = 0, delay = 5 },\
+               { op = 'fixed', name = 'f', first = 0, delay = 5 },\
+               { op = 'policy', which = 'continue', value = true },\
+               { at = 1, op = 'shutdown_now' },\
+               { at = 1, op = 'policy', which = 'continue', value = true },\
+               { at = 1, op = 'ask' },\
+               { at = 9, op = 'ask' }] }]",
+        workers: 6,
+        events: "clock 0\nstart 0\nstart 1\nstart 2\nstart 3\nstart 4\nstart 5\nclock 1\n\
+                 finish 0 ok 2\nfinish 1 fail 3\nfinish 2 ok 2\nfinish 3 fail 3\nfinish 4 ok 2\n\
+                 finish 5 fail 3\ncancel 0\ncancel 1\ncancel 2\ncancel 3\ncancel 4\ncancel 5\n\
+                 clock 9\nstart 0\n",
+        trace: "0 submit 0 schedule due 0\n0 submit 1 schedule due 0\n0 submit 2 rate due 0\n\
+                0 submit 3 rate due 0\n0 submit 4 fixed due 0\n0 submit 5 fixed due 0\n\
+                0 policy continue true\n0 clock\n0 start 0 task 0 run 0 due 0\n\
+                0 start 1 task 1 run 0 due 0\n0 start 2 task 2 run 0 due 0\n\
+                0 start 3 task 3 run 0 due 0\n0 start 4 task 4 run 0 due 0\n\
+                0 start 5 task 5 run 0 due 0\n\
+                1 shutdown now\n1 policy continue true\n\
+                1 ask queue 0 running 6 shutdown yes terminated no\n1 clock\n\
+                1 finish 0 task 0 run 0 done 2\n1 finish 1 task 1 run 0 failed 3\n\
+                1 finish 2 task 2 run 0 ended\n1 finish 3 task 3 run 0 failed 3\n\
+                1 finish 4 task 4 run 0 ended\n1 finish 5 task 5 run 0 failed 3\n1 outside 0 no\n\
+                1 outside 1 no\n1 outside 2 no\n1 outside 3 no\n1 outside 4 no\n1 outside 5 no\n\
+                9 ask queue 0 running 0 shutdown yes terminated yes\n9 clock\n9 start 0 idle\n",
+    },
     A_CANCELLED_RUN_IS_DROPPED,
-    TASKS_THAT_ARE_DUE_END_TOO,
+    // Tasks that are due before the shutdown at once, at its moment and after it end alike.
+    Row {
+        name: "tasks that are due end too",
+        plan: "version = 1\nblock = [{ call = [\
+               { op = 'schedule', name = 'a', delay = 4 },\
+               { op = 'schedule', name = 'b', delay = 5 },\
+               { op = 'schedule', name = 'c', delay = 6 },\
+               { op = 'rate', name = 'd', first = 4, period = 5 },\
+               { op = 'rate', name = 'e', first = 5, period = 5 },\
+               { at = 5, op = 'shutdown_now' }] }]",
+        workers: 1,
+        events: "clock 5\nstart 0\n",
+        trace: "0 submit 0 schedule due 4\n0 submit 1 schedule due 5\n0 submit 2 schedule due 6\n\
+                0 submit 3 rate due 4\n0 submit 4 rate due 5\n\
+                5 shutdown now\n5 end 0\n5 end 1\n5 end 2\n5 end 3\n5 end 4\n5 clock\n\
+                5 start 0 idle\n",
+    },
     POLICIES_THAT_ARE_SET_AFTER_IT_END_NOTHING,
-    AN_EXECUTOR_IS_TERMINATED_ONCE_THE_LAST_RUN_HAS_ENDED,
+    Row {
+        name: "an executor is terminated once the last run has ended",
+        plan: "version = 1\nblock = [{ call = [\
+               { op = 'schedule', name = 'a', delay = 0 },\
+               { op = 'rate', name = 'b', first = 0, period = 5 },\
+               { at = 1, op = 'shutdown_now' }, { at = 1, op = 'ask' },\
+               { at = 2, op = 'ask' },\
+               { at = 3, op = 'ask' }] }]",
+        workers: 2,
+        events: "clock 0\nstart 0\nstart 1\nclock 1\nfinish 1 ok 1\nclock 2\nfinish 0 ok 1\nclock 3\n",
+        trace: "0 submit 0 schedule due 0\n0 submit 1 rate due 0\n0 clock\n\
+                0 start 0 task 0 run 0 due 0\n0 start 1 task 1 run 0 due 0\n\
+                1 shutdown now\n1 ask queue 0 running 2 shutdown yes terminated no\n1 clock\n\
+                1 finish 1 task 1 run 0 ended\n\
+                2 ask queue 0 running 1 shutdown yes terminated no\n2 clock\n\
+                2 finish 0 task 0 run 0 done 1\n\
+                3 ask queue 0 running 0 shutdown yes terminated yes\n3 clock\n",
+    },
 ];
 
 /// The rows of this module.
@@ -85,23 +196,6 @@ pub const ALL_THAT_A_SHUTDOWN_LEAVES_END: Row = Row {
             2 end 1\n2 end 3\n2 ask queue 0 running 0 shutdown yes terminated yes\n2 clock\n",
 };
 
-pub const AN_EXECUTOR_IS_SHUT_AT_ONCE_BEFORE_ANY_TASK: Row = Row {
-    name: "an executor is shut at once before any task",
-    plan: "version = 1\nblock = [{ call = [\
-           { op = 'shutdown_now' }, { op = 'ask' },\
-           { at = 1, op = 'schedule', name = 'a', delay = 0 },\
-           { at = 1, op = 'rate', name = 'b', first = 0, period = 0 },\
-           { at = 1, op = 'rate', name = 'c', first = 0, period = 1 },\
-           { at = 1, op = 'fixed', name = 'd', first = 0, delay = 1 },\
-           { at = 1, op = 'ask' }] }]",
-    workers: 1,
-    events: "clock 1\nstart 0\ncancel 0\n",
-    trace: "0 shutdown now\n0 ask queue 0 running 0 shutdown yes terminated yes\n\
-            1 refuse 0 rejected\n1 refuse 1 illegal\n1 refuse 2 rejected\n1 refuse 3 rejected\n\
-            1 ask queue 0 running 0 shutdown yes terminated yes\n1 clock\n1 start 0 idle\n\
-            1 outside 0 none\n",
-};
-
 pub const A_SECOND_ONE_ENDS_NOTHING_MORE: Row = Row {
     name: "a second one ends nothing more",
     plan: "version = 1\nblock = [{ call = [\
@@ -136,74 +230,6 @@ pub const KEPT_TASKS_LEAVE: Row = Row {
             9 clock\n9 start 0 idle\n",
 };
 
-pub const RUNS_UNDER_WAY_GO_ON_TO_THEIR_ENDS_WHERE_CONTINUE_IS_FALSE: Row = Row {
-    name: "runs under way go on to their ends where continue is false",
-    plan: "version = 1\nblock = [{ call = [\
-           { op = 'schedule', name = 'a', delay = 0 },\
-           { op = 'schedule', name = 'b', delay = 0 },\
-           { op = 'rate', name = 'c', first = 0, period = 5 },\
-           { op = 'rate', name = 'd', first = 0, period = 5 },\
-           { op = 'fixed', name = 'e', first = 0, delay = 5 },\
-           { op = 'fixed', name = 'f', first = 0, delay = 5 },\
-           { op = 'policy', which = 'continue', value = false },\
-           { at = 1, op = 'shutdown_now' },\
-           { at = 1, op = 'policy', which = 'continue', value = false },\
-           { at = 1, op = 'ask' },\
-           { at = 9, op = 'ask' }] }]",
-    workers: 6,
-    events: "clock 0\nstart 0\nstart 1\nstart 2\nstart 3\nstart 4\nstart 5\nclock 1\n\
-             finish 0 ok 2\nfinish 1 fail 3\nfinish 2 ok 2\nfinish 3 fail 3\nfinish 4 ok 2\n\
-             finish 5 fail 3\ncancel 0\ncancel 1\ncancel 2\ncancel 3\ncancel 4\ncancel 5\n\
-             clock 9\nstart 0\n",
-    trace: "0 submit 0 schedule due 0\n0 submit 1 schedule due 0\n0 submit 2 rate due 0\n\
-            0 submit 3 rate due 0\n0 submit 4 fixed due 0\n0 submit 5 fixed due 0\n\
-            0 policy continue false\n0 clock\n0 start 0 task 0 run 0 due 0\n\
-            0 start 1 task 1 run 0 due 0\n0 start 2 task 2 run 0 due 0\n\
-            0 start 3 task 3 run 0 due 0\n0 start 4 task 4 run 0 due 0\n\
-            0 start 5 task 5 run 0 due 0\n\
-            1 shutdown now\n1 policy continue false\n\
-            1 ask queue 0 running 6 shutdown yes terminated no\n1 clock\n\
-            1 finish 0 task 0 run 0 done 2\n1 finish 1 task 1 run 0 failed 3\n\
-            1 finish 2 task 2 run 0 ended\n1 finish 3 task 3 run 0 failed 3\n\
-            1 finish 4 task 4 run 0 ended\n1 finish 5 task 5 run 0 failed 3\n1 outside 0 no\n\
-            1 outside 1 no\n1 outside 2 no\n1 outside 3 no\n1 outside 4 no\n1 outside 5 no\n\
-            9 ask queue 0 running 0 shutdown yes terminated yes\n9 clock\n9 start 0 idle\n",
-};
-
-pub const RUNS_UNDER_WAY_GO_ON_TO_THEIR_ENDS_WHERE_CONTINUE_IS_TRUE: Row = Row {
-    name: "runs under way go on to their ends where continue is true",
-    plan: "version = 1\nblock = [{ call = [\
-           { op = 'schedule', name = 'a', delay = 0 },\
-           { op = 'schedule', name = 'b', delay = 0 },\
-           { op = 'rate', name = 'c', first = 0, period = 5 },\
-           { op = 'rate', name = 'd', first = 0, period = 5 },\
-           { op = 'fixed', name = 'e', first = 0, delay = 5 },\
-           { op = 'fixed', name = 'f', first = 0, delay = 5 },\
-           { op = 'policy', which = 'continue', value = true },\
-           { at = 1, op = 'shutdown_now' },\
-           { at = 1, op = 'policy', which = 'continue', value = true },\
-           { at = 1, op = 'ask' },\
-           { at = 9, op = 'ask' }] }]",
-    workers: 6,
-    events: "clock 0\nstart 0\nstart 1\nstart 2\nstart 3\nstart 4\nstart 5\nclock 1\n\
-             finish 0 ok 2\nfinish 1 fail 3\nfinish 2 ok 2\nfinish 3 fail 3\nfinish 4 ok 2\n\
-             finish 5 fail 3\ncancel 0\ncancel 1\ncancel 2\ncancel 3\ncancel 4\ncancel 5\n\
-             clock 9\nstart 0\n",
-    trace: "0 submit 0 schedule due 0\n0 submit 1 schedule due 0\n0 submit 2 rate due 0\n\
-            0 submit 3 rate due 0\n0 submit 4 fixed due 0\n0 submit 5 fixed due 0\n\
-            0 policy continue true\n0 clock\n0 start 0 task 0 run 0 due 0\n\
-            0 start 1 task 1 run 0 due 0\n0 start 2 task 2 run 0 due 0\n\
-            0 start 3 task 3 run 0 due 0\n0 start 4 task 4 run 0 due 0\n\
-            0 start 5 task 5 run 0 due 0\n\
-            1 shutdown now\n1 policy continue true\n\
-            1 ask queue 0 running 6 shutdown yes terminated no\n1 clock\n\
-            1 finish 0 task 0 run 0 done 2\n1 finish 1 task 1 run 0 failed 3\n\
-            1 finish 2 task 2 run 0 ended\n1 finish 3 task 3 run 0 failed 3\n\
-            1 finish 4 task 4 run 0 ended\n1 finish 5 task 5 run 0 failed 3\n1 outside 0 no\n\
-            1 outside 1 no\n1 outside 2 no\n1 outside 3 no\n1 outside 4 no\n1 outside 5 no\n\
-            9 ask queue 0 running 0 shutdown yes terminated yes\n9 clock\n9 start 0 idle\n",
-};
-
 /// One run is cancelled before the shutdown at once, one after it by the plan, and one from outside.
 pub const A_CANCELLED_RUN_IS_DROPPED: Row = Row {
     name: "a cancelled run is dropped",
@@ -223,24 +249,6 @@ pub const A_CANCELLED_RUN_IS_DROPPED: Row = Row {
             2 cancel 1 yes\n2 clock\n2 outside 2 yes\n2 outside 2 no\n\
             2 finish 0 task 0 run 0 dropped\n2 finish 1 task 1 run 0 dropped\n\
             2 finish 2 task 2 run 0 dropped\n",
-};
-
-/// Tasks that are due before the shutdown at once, at its moment and after it end alike.
-pub const TASKS_THAT_ARE_DUE_END_TOO: Row = Row {
-    name: "tasks that are due end too",
-    plan: "version = 1\nblock = [{ call = [\
-           { op = 'schedule', name = 'a', delay = 4 },\
-           { op = 'schedule', name = 'b', delay = 5 },\
-           { op = 'schedule', name = 'c', delay = 6 },\
-           { op = 'rate', name = 'd', first = 4, period = 5 },\
-           { op = 'rate', name = 'e', first = 5, period = 5 },\
-           { at = 5, op = 'shutdown_now' }] }]",
-    workers: 1,
-    events: "clock 5\nstart 0\n",
-    trace: "0 submit 0 schedule due 4\n0 submit 1 schedule due 5\n0 submit 2 schedule due 6\n\
-            0 submit 3 rate due 4\n0 submit 4 rate due 5\n\
-            5 shutdown now\n5 end 0\n5 end 1\n5 end 2\n5 end 3\n5 end 4\n5 clock\n\
-            5 start 0 idle\n",
 };
 
 /// Each policy is set to each value after a shutdown at once, while a periodic task runs.
@@ -264,23 +272,4 @@ pub const POLICIES_THAT_ARE_SET_AFTER_IT_END_NOTHING: Row = Row {
             2 policy execute false\n2 policy execute true\n2 policy continue false\n\
             2 policy continue true\n2 policy remove false\n2 policy remove true\n2 clock\n\
             2 finish 0 task 0 run 0 ended\n2 start 0 idle\n",
-};
-
-pub const AN_EXECUTOR_IS_TERMINATED_ONCE_THE_LAST_RUN_HAS_ENDED: Row = Row {
-    name: "an executor is terminated once the last run has ended",
-    plan: "version = 1\nblock = [{ call = [\
-           { op = 'schedule', name = 'a', delay = 0 },\
-           { op = 'rate', name = 'b', first = 0, period = 5 },\
-           { at = 1, op = 'shutdown_now' }, { at = 1, op = 'ask' },\
-           { at = 2, op = 'ask' },\
-           { at = 3, op = 'ask' }] }]",
-    workers: 2,
-    events: "clock 0\nstart 0\nstart 1\nclock 1\nfinish 1 ok 1\nclock 2\nfinish 0 ok 1\nclock 3\n",
-    trace: "0 submit 0 schedule due 0\n0 submit 1 rate due 0\n0 clock\n\
-            0 start 0 task 0 run 0 due 0\n0 start 1 task 1 run 0 due 0\n\
-            1 shutdown now\n1 ask queue 0 running 2 shutdown yes terminated no\n1 clock\n\
-            1 finish 1 task 1 run 0 ended\n\
-            2 ask queue 0 running 1 shutdown yes terminated no\n2 clock\n\
-            2 finish 0 task 0 run 0 done 1\n\
-            3 ask queue 0 running 0 shutdown yes terminated yes\n3 clock\n",
 };

@@ -11,13 +11,15 @@ mod sessions;
 mod world;
 
 use std::process::{Abort, ExitCode};
-use std::sync::Wait;
-use std::thread::Threads;
-use world::{Ended, Given, file, run_in};
+use world::{Ended, Given, file};
 
 /// The plan of one delayed task, in the file `plan.toml`.
 const ONE_DELAY: &str =
     "version = 1\n\n[[block]]\n\n[[block.call]]\nop = \"schedule\"\nname = \"a\"\ndelay = 5\n";
+
+/// A trace of that plan.
+const TRACE: &str = "0 submit 0 schedule due 5\n5 clock\n5 start 0 task 0 run 0 due 5\n7 clock\n\
+7 finish 0 task 0 run 0 done 7\n";
 
 /// A command line that is given, with the plan of one delayed task and these events.
 fn given<'a>(line: &'a str, events: &'a str) -> Given<'a> {
@@ -40,15 +42,4 @@ fn ends(rt: &impl Abort, name: &str, ended: &Ended, status: u8, out: &str, err: 
     );
     assert!(rt; ended.out.as_slice() == out.as_bytes(), "{name}: {out}");
     assert!(rt; ended.err.as_slice() == err.as_bytes(), "{name}: {err}");
-}
-
-/// Checks how the program ends where this is given.
-fn ends_given<R: AllocGlobal + Abort + Threads + Wait + Sync>(
-    rt: &R,
-    given: Given<'_>,
-    status: u8,
-    out: &str,
-    err: &str,
-) {
-    ends(rt, given.line, &run_in(rt, given), status, out, err)
 }

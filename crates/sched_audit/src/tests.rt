@@ -26,6 +26,13 @@ struct Run<'a> {
     trace: &'a str,
 }
 
+/// What is told of a plan of another version than those that are read.
+const VERSION: PlanFault = PlanFault {
+    kind: PlanFaultKind::Version,
+    block: 0,
+    call: 0,
+};
+
 /// The listing of the code of the plan that a text writes.
 fn listed(rt: &impl AllocGlobal, plan: &str) -> Result<Vec<u8>, Fail> {
     let mut writer = Writing::new(Vec::new(rt.alloc()));
@@ -56,15 +63,7 @@ fn conforms(rt: &(impl AllocGlobal + Abort), wanted: &Run<'_>) -> Result<(), Fai
 /// Checks that a plan, that of the run of this name, is of version 2.
 fn is_migrated(rt: &(impl AllocGlobal + Abort), plan: &str, name: &str) {
     let fault = migrate(rt.alloc(), plan.as_bytes()).err();
-    assert_eq!(rt;
-        fault,
-        Some(PlanFault {
-            kind: PlanFaultKind::Version,
-            block: 0,
-            call: 0,
-        }),
-        "{name}"
-    );
+    assert_eq!(rt; fault, Some(VERSION), "{name}");
 }
 
 /// Checks the answer and the trace of a run with this plan, and that the trace conforms.
@@ -89,12 +88,6 @@ fn conforms_with(
     assert!(rt; trace.as_slice() == wanted.trace.as_bytes(), "{name}");
     assert_eq!(rt; finding, Finding::Conforms, "{name}");
     Ok(())
-}
-
-/// Checks that there is no audit of a run of one event, and why.
-fn fails(rt: &(impl AllocGlobal + Abort), plan: &str, workers: u8, limit: u32, error: AuditError) {
-    let told = run_and_check(rt.alloc(), plan.as_bytes(), workers, limit, b"clock 0\n").err();
-    assert_eq!(rt; told, Some(error));
 }
 
 #[test]
@@ -123,26 +116,15 @@ fn runs_that_end_early_conform(rt: HostRuntime) -> Result<(), Fail> {
 
 #[test]
 fn what_is_refused_has_no_audit(rt: HostRuntime) {
-    let fault = PlanFault {
-        kind: PlanFaultKind::Version,
-        block: 0,
-        call: 0,
-    };
-    fails(
-        &rt,
-        "version = 3",
-        1,
-        1,
-        AuditError::Run(RunError::Plan(fault)),
-    );
-    fails(
-        &rt,
-        ONE_DELAY.plan,
-        65,
-        1,
-        AuditError::Run(RunError::Workers),
-    );
-    fails(&rt, ONE_DELAY.plan, 1, 0, AuditError::Run(RunError::Limit));
+    let cases = [
+        ("version = 3", 1, 1, RunError::Plan(VERSION)),
+        (ONE_DELAY.plan, 65, 1, RunError::Workers),
+        (ONE_DELAY.plan, 1, 0, RunError::Limit),
+    ];
+    for (plan, workers, limit, error) in cases {
+        let audit = run_and_check(rt.alloc(), plan.as_bytes(), workers, limit, b"clock 0\n");
+        assert_eq!(rt; audit.err(), Some(AuditError::Run(error)));
+    }
 }
 
 /// The text of an error, and how it is shown to programmers.

@@ -17,14 +17,9 @@ mod scripted;
 mod turns;
 mod usage;
 
-/// A run, and what it has to answer and to write.
-#[derive(Clone, Copy)]
-struct Run<'a> {
-    plan: &'a str,
-    limit: u32,
-    events: &'a str,
-    answer: Result<Report, RunError>,
-    trace: &'a str,
+/// What a run did.
+fn report(events: u32, lines: u64) -> Report {
+    Report { events, lines }
 }
 
 /// The answer of a run over memory that reads at most `most` bytes at a time, and what it wrote.
@@ -38,31 +33,22 @@ fn ran(
 ) -> (Result<Report, RunError>, Vec<u8>) {
     let mut reader = Pieces::new(events.as_bytes(), most);
     let mut writer = Writing::new(Vec::new(alloc));
-    let answer = run(
-        alloc,
-        plan.as_bytes(),
-        workers,
-        limit,
-        &mut reader,
-        &mut writer,
-    );
+    let plan = plan.as_bytes();
+    let answer = run(alloc, plan, workers, limit, &mut reader, &mut writer);
     (answer, writer.into_inner())
 }
 
-/// Checks the answer and the bytes of a run by one worker, read at once and a few bytes at a time.
-fn answers(rt: &(impl AllocGlobal + Abort), wanted: &Run<'_>) {
-    answers_with(rt, wanted, 1, wanted.events)
-}
-
-/// Checks a run by this number of workers, which has this name.
-fn answers_with(rt: &(impl AllocGlobal + Abort), wanted: &Run<'_>, workers: u8, name: &str) {
-    let Run {
-        plan,
-        limit,
-        events,
-        answer,
-        trace,
-    } = *wanted;
+/// Checks the answer and the trace of a run of this name, read at once and a few bytes at a time.
+fn answers(
+    rt: &(impl AllocGlobal + Abort),
+    name: &str,
+    plan: &str,
+    workers: u8,
+    limit: u32,
+    events: &str,
+    wanted: (Result<Report, RunError>, &str),
+) {
+    let (answer, trace) = wanted;
     for most in [65_536usize, 1, 2, 7] {
         let (told, written) = ran(rt.alloc(), plan, workers, limit, events, most);
         assert!(rt; told == answer, "{name}: {told:?}");
@@ -86,16 +72,8 @@ fn ends_at_a_line_that_is_no_event(rt: HostRuntime) {
             ERRORS.trace,
         ),
     ] {
-        answers(
-            &rt,
-            &Run {
-                plan: ERRORS.plan,
-                limit: 1_000_000,
-                events,
-                answer: Err(RunError::EventLine(at)),
-                trace,
-            },
-        );
+        let told = (Err(RunError::EventLine(at)), trace);
+        answers(&rt, events, ERRORS.plan, 1, 1_000_000, events, told);
     }
     for events in [
         "finish 255 ok 18446744073709551615\n\nclock 1\n",
@@ -108,38 +86,16 @@ fn ends_at_a_line_that_is_no_event(rt: HostRuntime) {
         "finish 255 ok 18446744073709551615\nclock 00000000000000000000000000000000000000000000000000000001\n",
         "finish 255 ok 18446744073709551615\nfinish 255 ok 18446744073709551616\n",
     ] {
-        answers(
-            &rt,
-            &Run {
-                plan: "version = 1",
-                limit: 1,
-                events,
-                answer: Err(RunError::EventLine(2)),
-                trace: "0 error no worker\n",
-            },
-        );
+        let told = (Err(RunError::EventLine(2)), "0 error no worker\n");
+        answers(&rt, events, "version = 1", 1, 1, events, told);
     }
 }
 
 #[test]
 fn ends_at_the_limit(rt: HostRuntime) {
-    answers(
-        &rt,
-        &Run {
-            plan: ONE_DELAY.plan,
-            limit: 3,
-            events: ONE_DELAY.events,
-            answer: Err(RunError::Full),
-            trace: "0 submit 0 schedule due 5\n0 clock\n0 start 0 idle\n4 clock\n",
-        },
-    );
-}
-
-/// Checks that a run is refused so, with nothing written.
-fn refuses(rt: &(impl AllocGlobal + Abort), plan: &str, workers: u8, limit: u32, fault: RunError) {
-    let (answer, trace) = ran(rt.alloc(), plan, workers, limit, ONE_DELAY.events, 65_536);
-    assert_eq!(rt; answer, Err(fault));
-    assert!(rt; trace.is_empty());
+    let trace = "0 submit 0 schedule due 5\n0 clock\n0 start 0 idle\n4 clock\n";
+    let told = (Err(RunError::Full), trace);
+    answers(&rt, "full", ONE_DELAY.plan, 1, 3, ONE_DELAY.events, told);
 }
 
 /// A fault of the plan text as a whole.
@@ -154,15 +110,21 @@ fn of_text(kind: PlanFaultKind) -> RunError {
 #[test]
 fn refuses_workers_limits_and_texts(rt: HostRuntime) -> Result<(), Fail> {
     let toml = of_text(PlanFaultKind::Toml);
-    refuses(&rt, ONE_DELAY.plan, 0, 1, RunError::Workers);
-    refuses(&rt, ONE_DELAY.plan, 65, 1, RunError::Workers);
-    refuses(&rt, ONE_DELAY.plan, 255, 0, RunError::Workers);
-    refuses(&rt, ONE_DELAY.plan, 64, 0, RunError::Limit);
-    refuses(&rt, "version =", 0, 0, toml);
-    refuses(&rt, "version =", 1, 1, toml);
-    refuses(&rt, "", 1, 1, of_text(PlanFaultKind::Version));
     let long = " ".repeat(rt.alloc(), 1_048_577)?;
-    refuses(&rt, long.as_str(), 1, 1, of_text(PlanFaultKind::TooLong));
+    for (plan, workers, limit, fault) in [
+        (ONE_DELAY.plan, 0u8, 1u32, RunError::Workers),
+        (ONE_DELAY.plan, 65, 1, RunError::Workers),
+        (ONE_DELAY.plan, 255, 0, RunError::Workers),
+        (ONE_DELAY.plan, 64, 0, RunError::Limit),
+        ("version =", 0, 0, toml),
+        ("version =", 1, 1, toml),
+        ("", 1, 1, of_text(PlanFaultKind::Version)),
+        (long.as_str(), 1, 1, of_text(PlanFaultKind::TooLong)),
+    ] {
+        let (answer, trace) = ran(rt.alloc(), plan, workers, limit, ONE_DELAY.events, 65_536);
+        assert_eq!(rt; answer, Err(fault));
+        assert!(rt; trace.is_empty());
+    }
     let (answer, _) = ran(rt.alloc(), ONE_DELAY.plan, 64, 7, ONE_DELAY.events, 65_536);
     assert!(rt; answer.is_ok());
     Ok(())
@@ -221,11 +183,7 @@ delay = 5
 ";
     let events = b"clock 5\nstart 0\nfinish 0 ok 7\n";
     let (answer, trace) = run_in_memory(rt.alloc(), plan, 1, 1_000, events);
-    let report = Report {
-        events: 3,
-        lines: 4,
-    };
-    assert_eq!(rt; answer, Ok(report));
+    assert_eq!(rt; answer, Ok(report(3, 4)));
     let lines = b"\
 0 submit 0 schedule due 5
 5 clock

@@ -37,7 +37,7 @@ use Rattle.task_table.proofs.Shown.{takes_call, same_shown, later_shown, put_sho
 -- ---- what a cancel does
 
 -- what the table says that a cancel does is what the equations say
-effect_is : (terms : Terms) (x : Seat) → x.phase ≢ ph.Vacant → (x.phase ≡ ph.Dropped → x.cancelled ≡ true) → effect_on (seen_task terms (task_in x)) ≡ effect_of x
+pub effect_is : (terms : Terms) (x : Seat) → x.phase ≢ ph.Vacant → (x.phase ≡ ph.Dropped → x.cancelled ≡ true) → effect_on (seen_task terms (task_in x)) ≡ effect_of x
 effect_is terms x used over = by x.phase x.cancelled refl refl
   where
     by : (p : Stage) (b : Bool) → x.phase ≡ p → x.cancelled ≡ b → effect_on (seen_task terms (task_in x)) ≡ cond ((is_waiting_in p || is_running_in p) && not b) f.Yes f.No

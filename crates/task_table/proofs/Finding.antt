@@ -1,17 +1,21 @@
 -- What a sweep finds as it goes over the slots, and the table that it leaves.
 use Rattle.std.proofs.Common.{◌≡◌, ℕ, ◌+◌, ◌<◌, ◌≤◌, ◌||◌, zero, suc, Bool, true, false, cond, List, [], ◌∷◌, ◌++◌, length, map, take, drop, Option, Some, None, refl, sym, ap, ◌∙◌, arith}
 use Rattle.std.specs.Prelude.{slice_index_or}
-use Rattle.std.specs.Option.{option_map}
+use Rattle.std.specs.Option.{option_map, option_map_or}
 use Rattle.std.specs.List.{All}
 use Rattle.std.proofs.Math.ListN.{set}
+use Rattle.std.proofs.lemmas.Bool.{false≢true}
+use Rattle.std.proofs.lemmas.Option.{same_Some}
 use Rattle.std.proofs.lemmas.List.{length-take}
 use Rattle.std.proofs.lemmas.List.Elements.{All-nil, All-cons}
 use Rattle.task_table.specs.declared.seat.Seat.{Seat}
 use Rattle.task_table.specs.declared.seat.TaskRef.{TaskRef}
 use Rattle.task_table.specs.Seats.{slot_of}
 use Rattle.task_table.specs.Tables.{TableView}
-use Rattle.task_table.specs.Changes.{put, swept, after_sweep}
-use Rattle.task_table.specs.own.Found.{ref_of, found, ends_task, swept_in, partly}
+use Rattle.task_table.specs.Ends.{ends_task, ends_at_slot}
+use Rattle.task_table.specs.Changes.{put, swept, swept_in, after_sweep}
+use Rattle.task_table.specs.own.Found.{ref_of, found, partly}
+use Rattle.task_table.proofs.Written.{set_writes, slot_within}
 
 -- ---- the table, as far as the sweep has come
 
@@ -98,6 +102,38 @@ sweep_more n m new k ends more low is all writes adds =
           ∙ (ap (λ o. found (ends_task n) 0 (take k n.slots) ++ ref_of (ends_task n) k o) was
           ∙ (sym (found_more (ends_task n) n.slots 0 k k low (omega arith)) ∙ ap (λ j. found (ends_task n) 0 (take j n.slots)) next)))),
     )
+
+-- a slot whose task the sweep does not end has none that it finds
+pub none_ref : (m : TableView) (k : ℕ) (ended : Bool) (ends : List TaskRef) → ended ≡ ends_at_slot m k → ended ≡ false → ends ≡ ends ++ ref_of (ends_task m) k (slot_of m.slots k)
+none_ref m k ended ends is spared = sym (no_more ends) ∙ ap (λ rest. ends ++ rest) (sym (by (slot_of m.slots k) (sym is ∙ spared)))
+  where
+    by : (o : Option Seat) → option_map_or (ends_task m) o false ≡ false → ref_of (ends_task m) k o ≡ []
+    by None q = refl
+    by (Some x) q = ap (λ b. cond b (record { number = x.number; slot = k } ∷ []) []) q
+
+-- the task of another one is there, and is found
+pub record IsSweptAt (m new : TableView) (k : ℕ) : Type 0 where
+  pub task : Seat
+  pub there : slot_of new.slots k ≡ Some task
+  pub finds : ref_of (ends_task m) k (slot_of m.slots k) ≡ record { number = task.number; slot = k } ∷ []
+
+pub swept_at : (m new : TableView) (k : ℕ) (ended : Bool) → ended ≡ ends_at_slot m k → ended ≡ true → new ≡ swept_in (slot_of m.slots k) m k → IsSweptAt m new k
+swept_at m new k ended is did writes = by (slot_of m.slots k) refl (sym is ∙ did)
+  where
+    by : (o : Option Seat) → slot_of m.slots k ≡ o → option_map_or (ends_task m) o false ≡ true → IsSweptAt m new k
+    by None there q = absurd (false≢true q)
+    by (Some x) there q =
+        let y : Seat = record x { cancelled = true } in
+        let same : new ≡ put m k y = writes ∙ (ap (λ o. swept_in o m k) there ∙ ap (λ b. cond b (put m k y) m) q) in
+        record {
+          task = y;
+          there = ap (λ (t : TableView). slot_of t.slots k) same ∙ (set_writes m.slots k y (slot_within m.slots k x there)).here;
+          finds = ap (ref_of (ends_task m) k) there ∙ ap (λ b. cond b (record { number = x.number; slot = k } ∷ []) []) q;
+        }
+
+-- what is found is that of the task that is there
+pub some_ref : (m new : TableView) (k : ℕ) (x : Seat) → IsSweptAt m new k → slot_of new.slots k ≡ Some x → record { number = x.number; slot = k } ∷ [] ≡ ref_of (ends_task m) k (slot_of m.slots k)
+some_ref m new k x swept there = (λ i. record { number = (same_Some x swept.task (sym there ∙ swept.there) i).number; slot = k } ∷ []) ∙ sym swept.finds
 
 -- it finds no more tasks than slots
 pub found_short : (test : Seat → Bool) (slots : List (Option Seat)) (start : ℕ) → length (found test start slots) ≤ length slots

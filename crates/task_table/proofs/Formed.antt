@@ -16,7 +16,7 @@ use Rattle.executor_model.specs.declared.task.Stage.TheVariants as ph
 use Rattle.executor_model.proofs.Tables.{at_set, at_replicate}
 use Rattle.task_table.specs.declared.seat.Seat.{Seat}
 use Rattle.task_table.specs.Seats.{task_in, slot_of, is_alive, is_running_in, waits, IsNew}
-use Rattle.task_table.specs.Tables.{TableView, Shows, WorkIs}
+use Rattle.task_table.specs.Tables.{TableView, Shows, Stands, WorkIs}
 use Rattle.task_table.specs.Ends.{is_swept}
 use Rattle.task_table.specs.Changes.{submitted, at_moment, admitted, emptied, grown, swept, after_sweep}
 use Rattle.task_table.specs.own.Formed.{IsSeated, IsFormed}
@@ -187,29 +187,41 @@ formed_swept m f = record {
 
 -- ---- the table before anything happened
 
--- a table of no slots, with so many workers
-abbrev pub opened : ℕ → TableView
-opened workers = record { moment = 0; slots = []; work = replicate workers None; policies = default_policies; shut = false; stopped = false }
+-- a table of these slots, with so many workers
+abbrev pub opened : List (Option Seat) → ℕ → TableView
+opened slots workers = record { moment = 0; slots = slots; work = replicate workers None; policies = default_policies; shut = false; stopped = false }
 
-pub formed_new : (workers : ℕ) → 0 < workers → workers ≤ most_workers → IsFormed (opened workers)
-formed_new workers some few = record {
+-- no slot holds a task
+abbrev pub AreEmpty : List (Option Seat) → Type 0
+AreEmpty slots = (i : ℕ) → slot_of slots i ≡ None
+
+-- so none is read from one
+pub none_there : {X : Type 0} (slots : List (Option Seat)) (i : ℕ) (x : Seat) → AreEmpty slots → slot_of slots i ≡ Some x → X
+none_there slots i x empty q = absurd (none-some x (sym (empty i) ∙ q))
+
+pub formed_new : (slots : List (Option Seat)) (workers : ℕ) → AreEmpty slots → length slots < 2 ^ 32 → 0 < workers → workers ≤ most_workers → IsFormed (opened slots workers)
+formed_new slots workers empty low some few = record {
   moment = omega arith;
   some = omega (arith, some, length-replicate workers (let none : Option ℕ = None in none));
   few = omega (arith, few, length-replicate workers (let none : Option ℕ = None in none));
-  slots = omega arith;
-  seated = λ i x q. absurd (none-some x q);
-  apart = λ i j x y p. absurd (none-some x p);
+  slots = low;
+  seated = λ i x q. none_there slots i x empty q;
+  apart = λ i j x y p. none_there slots i x empty p;
   staffed = λ w i q. absurd (none-some i (sym (at_replicate workers w None) ∙ q));
   alone = λ v w i q. absurd (none-some i (sym (at_replicate workers v None) ∙ q));
 }
 
-pub shows_new : (workers : ℕ) → Shows (opened workers) opening
-shows_new workers = record {
+shows_new : (slots : List (Option Seat)) (workers : ℕ) → AreEmpty slots → Shows (opened slots workers) opening
+shows_new slots workers empty = record {
   moment = refl;
   policies = refl;
   shut = refl;
   stopped = refl;
-  held = λ i x q. absurd (none-some x q);
+  held = λ i x q. none_there slots i x empty q;
   known = λ k q. absurd (false≢true q);
-  work = λ w. subst (λ o. WorkIs [] o None) (sym (at_replicate workers w None)) refl;
+  work = λ w. subst (λ o. WorkIs slots o None) (sym (at_replicate workers w None)) refl;
 }
+
+-- it stands where nothing happened
+pub stands_new : (slots : List (Option Seat)) (workers : ℕ) → AreEmpty slots → Stands (opened slots workers) [] []
+stands_new slots workers empty = record { orderly = tt; means = tt; shows = shows_new slots workers empty }

@@ -30,3 +30,4 @@ pub mod Queuing
 pub mod Finding
 pub mod Sorting
 pub mod Spent
+pub mod RunEnds

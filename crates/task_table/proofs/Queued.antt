@@ -17,13 +17,13 @@ use Rattle.executor_model.proofs.Tables.{at_set}
 use Rattle.task_table.specs.declared.seat.Seat.{Seat}
 use Rattle.task_table.specs.Seats.{task_in, slot_of, is_waiting_in, is_running_in, waits, is_alive}
 use Rattle.task_table.specs.Tables.{TableView}
-use Rattle.task_table.specs.Ends.{is_swept, effect_of}
+use Rattle.task_table.specs.Ends.{is_swept, effect_of, ends_at_slot}
 use Rattle.task_table.specs.Changes.{put, submitted, at_moment, admitted, begun, started, ended, finished, cancelled, cancel_by, cancel_in, emptied, grown, unkept, swept, after_sweep}
 use Rattle.task_table.specs.own.Formed.{IsFormed}
 use Rattle.task_table.specs.Orders.{with_key}
-use Rattle.task_table.specs.own.Queues.{Queues, key_where, queued_key, kept_key, key_again, key_cancelled, ends_at, without_swept}
+use Rattle.task_table.specs.own.Queues.{Queues, key_where, queued_key, kept_key, key_again, key_cancelled, without_swept}
 use Rattle.task_table.proofs.Written.{slot_within}
-use Rattle.task_table.proofs.Formed.{at_grown, at_swept, opened}
+use Rattle.task_table.proofs.Formed.{at_grown, at_swept, opened, AreEmpty}
 
 -- ---- a change that leaves what the slots hold
 
@@ -40,8 +40,8 @@ queues_under m policies shut stopped entries kept = queues_alike m (record m { p
 pub queues_grown : (m : TableView) (slots : ℕ) (entries kept : ℕ → Option (ℕ × ℕ)) → Queues m entries kept → Queues (grown m slots) entries kept
 queues_grown m slots entries kept = queues_alike m (grown m slots) entries kept (at_grown m.slots (slots - length m.slots))
 
-pub queues_new : (workers : ℕ) → Queues (opened workers) (λ i. None) (λ i. None)
-queues_new workers = record { waiting = λ i. refl; keeping = λ i. refl }
+pub queues_new : (slots : List (Option Seat)) (workers : ℕ) (entries kept : ℕ → Option (ℕ × ℕ)) → AreEmpty slots → ((i : ℕ) → entries i ≡ None) → ((i : ℕ) → kept i ≡ None) → Queues (opened slots workers) entries kept
+queues_new slots workers entries kept empty none also = record { waiting = λ i. none i ∙ ap queued_key (sym (empty i)); keeping = λ i. also i ∙ ap kept_key (sym (empty i)) }
 
 -- ---- one slot is written
 
@@ -195,7 +195,7 @@ queued_swept stopped policies moment x = by (is_swept stopped policies moment x)
 
 pub queues_swept : (m : TableView) (entries kept : ℕ → Option (ℕ × ℕ)) → Queues m entries kept → Queues (after_sweep m) (without_swept m entries) kept
 queues_swept m entries kept q = record {
-  waiting = λ i. ap (cond (ends_at m i) None) (q.waiting i) ∙ (leaves (slot_of m.slots i) ∙ ap queued_key (sym (at_swept m i)));
+  waiting = λ i. ap (cond (ends_at_slot m i) None) (q.waiting i) ∙ (leaves (slot_of m.slots i) ∙ ap queued_key (sym (at_swept m i)));
   keeping = λ i. q.keeping i ∙ (holds (slot_of m.slots i) ∙ ap kept_key (sym (at_swept m i)));
 }
   where

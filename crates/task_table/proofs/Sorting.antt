@@ -16,11 +16,11 @@ use Rattle.task_table.specs.declared.seat.Seat.{Seat}
 use Rattle.task_table.specs.declared.seat.TaskRef.{TaskRef}
 use Rattle.task_table.specs.Seats.{task_in, slot_of, waits, is_alive, is_waiting_in, is_running_in}
 use Rattle.task_table.specs.Tables.{TableView}
-use Rattle.task_table.specs.Ends.{IsAscending}
+use Rattle.task_table.specs.Ends.{IsAscending, ends_task}
 use Rattle.task_table.specs.Endings.{numbers_of, IsOverAt, SweepEnds}
 use Rattle.task_table.specs.Changes.{swept, after_sweep}
 use Rattle.task_table.specs.own.Formed.{IsFormed}
-use Rattle.task_table.specs.own.Found.{found, ends_task}
+use Rattle.task_table.specs.own.Found.{found}
 use Rattle.task_table.proofs.Written.{AreApart}
 use Rattle.task_table.proofs.Formed.{at_swept}
 use Rattle.task_table.proofs.Firsts.{waits_is}

@@ -1,5 +1,5 @@
 -- A table and its two queues stay as they should be after each change.
-use Rattle.std.proofs.Common.{◌≡◌, ℕ, Bool, true, inl, inr, ◌==◌, ◌+◌, ◌-◌, ◌^◌, ◌<◌, ◌≤◌, false, cond, List, [], length, replicate, Option, Some, None, ◌++◌, refl, sym, ap, ◌∙◌, arith, subst}
+use Rattle.std.proofs.Common.{◌≡◌, ℕ, Bool, true, inl, inr, ◌==◌, ◌+◌, ◌-◌, ◌^◌, ◌<◌, ◌≤◌, false, cond, List, length, replicate, Option, Some, None, ◌++◌, refl, sym, ap, ◌∙◌, arith, subst}
 use Rattle.std.specs.Prelude.{Result, Ok, Err, OnOk}
 use Rattle.std.specs.Result.{is_err}
 use Rattle.std.proofs.Math.ListN.{set}
@@ -10,6 +10,7 @@ use Rattle.executor_model.proofs.Tables.{at_set}
 use Rattle.sched_time.specs.Times.{longest}
 use Rattle.sched_time.specs.declared.timing.Timing.{Timing}
 use Rattle.queue_code.specs.Calls.{IsTimed}
+use Rattle.executor_model.specs.Counts.{IsWorkerCount}
 use Rattle.slot_queue.specs.Entries.{Key}
 use Rattle.slot_queue.specs.Queues.{with_slots}
 use Rattle.task_table.specs.declared.seat.Seat.{Seat}
@@ -20,7 +21,7 @@ use Rattle.task_table.specs.Changes.{submitted, at_moment, admitted, emptied, gr
 use Rattle.executor_model.specs.declared.task.Stage.TheVariants as ph
 use Rattle.task_table.specs.Orders.{keys, with_key}
 use Rattle.task_table.specs.own.Queues.{Queues, queued_key, IsTable}
-use Rattle.task_table.proofs.Formed.{formed_moment, formed_admitted, formed_emptied, formed_grown, formed_new, opened, at_grown}
+use Rattle.task_table.proofs.Formed.{formed_moment, formed_admitted, formed_emptied, formed_grown, formed_new, opened, AreEmpty, none_there, at_grown}
 use Rattle.task_table.proofs.Queued.{queues_moment, queues_grown, queues_new, queues_admitted, queues_emptied}
 use Rattle.task_table.proofs.Keys.{keys_grown}
 use Rattle.task_table.proofs.Written.{set_writes, read_slot, slot_within}
@@ -69,14 +70,15 @@ tabled_roomy m entries kept room spare more spare_more t same also = record { fo
 
 -- ---- the table before anything happened, and its room
 
-pub tabled_new : {a : ℕ → ℕ → Bool} {r : ℕ → Bool} (workers : ℕ) → 0 < workers → workers ≤ 64 → IsTable a r (opened workers) (keys []) (keys []) 0 0
-tabled_new workers some few = record {
-  formed = formed_new workers some few;
-  queues = queues_as (opened workers) (λ i. None) (λ i. None) (keys []) (keys []) (queues_new workers) (λ i. refl) (λ i. refl);
-  room = omega arith;
-  spare = omega arith;
-  fits = λ i x there. absurd (none-some x there);
-  runs = λ i x there. absurd (none-some x there);
+pub tabled_new : {a : ℕ → ℕ → Bool} {r : ℕ → Bool} {room spare : ℕ} (slots : List (Option Seat)) (workers : ℕ) (entries kept : ℕ → Option (ℕ × ℕ)) → AreEmpty slots → length slots < 2 ^ 32 → IsWorkerCount workers →
+    ((i : ℕ) → entries i ≡ None) → length slots ≤ room → ((i : ℕ) → kept i ≡ None) → length slots ≤ spare → IsTable a r (opened slots workers) entries kept room spare
+tabled_new slots workers entries kept empty low count none roomy also spacious = record {
+  formed = formed_new slots workers empty low (omega (arith, count.0)) count.1;
+  queues = queues_new slots workers entries kept empty none also;
+  room = roomy;
+  spare = spacious;
+  fits = λ i x there. none_there slots i x empty there;
+  runs = λ i x there. none_there slots i x empty there;
 }
 
 -- there are so many slots at least

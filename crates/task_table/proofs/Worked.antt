@@ -99,6 +99,14 @@ over_key o.Dropped due number over = refl
 over_key o.Ended due number over = refl
 over_key (o.Again next) due number over = absurd (false≢true (sym over))
 
+-- a run ends so that its task goes on in one way alone
+pub not_again : (outcome : Outcome) → ((next : ℕ) → outcome ≡ o.Again next → ⊥) → is_again outcome ≡ false
+not_again (o.Again next) none = absurd (none next refl)
+not_again (o.Done value) none = refl
+not_again (o.Failed code) none = refl
+not_again o.Dropped none = refl
+not_again o.Ended none = refl
+
 -- the task waits for its next run, and has an entry again
 pub tabled_again : {a : ℕ → ℕ → Bool} {r : ℕ → Bool} {room spare : ℕ} (m : TableView) (worker slot : ℕ) (x : Seat) (stops : Bool) (ending : Ending) (outcome : Outcome) (due : ℕ) (entries kept after : ℕ → Option (ℕ × ℕ)) →
     IsTable a r m entries kept room spare → slice_index_or m.work worker None ≡ Some slot → slot_of m.slots slot ≡ Some x → due ≡ due_past x.timing x.due m.moment → outcome ≡ outcome_in x.cancelled stops x.timing due ending →

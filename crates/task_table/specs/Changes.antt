@@ -1,6 +1,6 @@
 -- What each call makes of a table, exactly. No contract of a public call cites it but in clauses of what is in the slots.
 -- All of it is this project's rule.
-use Rattle.std.specs.Prelude.{ℕ, ◌+◌, ◌-◌, ◌&&◌, ◌||◌, ◌++◌, not, Bool, true, false, length, replicate, map, Some, None, slice_set, option_map}
+use Rattle.std.specs.Prelude.{ℕ, ◌+◌, ◌-◌, ◌&&◌, ◌||◌, ◌++◌, not, Bool, true, false, if◌then◌else◌, length, replicate, map, Option, Some, None, slice_set, option_map}
 use Rattle.sched_time.specs.declared.timing.Timing.{Timing}
 use Rattle.sched_time.specs.declared.policies.Policies.{Policies}
 use Rattle.executor_model.specs.declared.types.Outcome.{Outcome}
@@ -11,7 +11,7 @@ use Rattle.executor_model.specs.declared.types.CancelEffect.TheVariants as f
 use Rattle.task_table.specs.declared.seat.Seat.{Seat}
 use Rattle.task_table.specs.Seats.{is_waiting_in}
 use Rattle.task_table.specs.Tables.{TableView}
-use Rattle.task_table.specs.Ends.{is_swept, effect_of}
+use Rattle.task_table.specs.Ends.{is_swept, ends_task, effect_of}
 
 -- the table once a slot holds this
 abbrev pub put : TableView → ℕ → Seat → TableView
@@ -81,6 +81,11 @@ unkept x = record x { kept = false }
 -- a task after such a sweep: it is cancelled where it is ended
 abbrev pub swept : Bool → Policies → ℕ → Seat → Seat
 swept stopped policies moment x = record x { cancelled = is_swept stopped policies moment x || x.cancelled }
+
+-- the table once the task in a slot, which holds this, is swept
+abbrev pub swept_in : Option Seat → TableView → ℕ → TableView
+swept_in None m slot = m
+swept_in (Some x) m slot = if ends_task m x then put m slot (record x { cancelled = true }) else m
 
 -- the table after a sweep under the policies that it has
 abbrev pub after_sweep : TableView → TableView

@@ -1,6 +1,7 @@
 -- Which tasks of a table a sweep ends, and what a cancel does to one.
 -- All of it is this project's rule.
 use Rattle.std.specs.Prelude.{◌≡◌, ℕ, ◌<◌, ◌&&◌, ◌||◌, not, Bool, true, false, if◌then◌else◌, List, [], ◌∷◌, Some}
+use Rattle.std.specs.Option.{option_map_or}
 use Rattle.sched_time.specs.declared.policies.Policies.{Policies}
 use Rattle.executor_model.specs.declared.types.CancelEffect.{CancelEffect}
 use Rattle.executor_model.specs.declared.types.CancelEffect.TheVariants as f
@@ -17,6 +18,14 @@ use Rattle.task_table.specs.Tables.{TableView}
 -- a sweep under these policies, at this moment, ends a task
 abbrev pub is_swept : Bool → Policies → ℕ → Seat → Bool
 is_swept stopped policies moment x = waits (task_in x) && is_ended_by stopped policies moment x.timing x.due
+
+-- a sweep of the table, under the policies and at the moment that it has, ends a task
+abbrev pub ends_task : TableView → Seat → Bool
+ends_task m x = is_swept m.stopped m.policies m.moment x
+
+-- it ends the task in a slot
+abbrev pub ends_at_slot : TableView → ℕ → Bool
+ends_at_slot m i = option_map_or (is_swept m.stopped m.policies m.moment) (slot_of m.slots i) false
 
 -- a call sweeps, where the executor was shut before it or not: it is the first shutdown, or one at once, or sets the continue or
 -- the execute policy to false while the executor is shut

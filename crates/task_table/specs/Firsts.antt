@@ -5,6 +5,7 @@ use Rattle.std.specs.Option.{option_map_or}
 use Rattle.delay_queue.specs.Queues.{comes_before}
 use Rattle.queue_code.specs.Calls.{how_many}
 use Rattle.task_table.specs.declared.seat.Seat.{Seat}
+use Rattle.task_table.specs.declared.seat.TaskRef.{TaskRef}
 use Rattle.task_table.specs.Seats.{task_in, slot_of, waits}
 use Rattle.task_table.specs.Tables.{TableView}
 
@@ -21,6 +22,10 @@ pub record IsFirstDue (m : TableView) (slot : ℕ) (x : Seat) : Type 0 where
 -- no task waits whose due moment is reached
 abbrev pub NoneDue : TableView → Type 0
 NoneDue m = (i : ℕ) (y : Seat) → slot_of m.slots i ≡ Some y → waits (task_in y) ≡ true → y.due ≤ m.moment → ⊥
+
+-- this names the first task that waits and is due
+abbrev pub IsFirst : TableView → TaskRef → Type 0
+IsFirst m r = (x : Seat) × IsFirstDue m r.slot x × (x.number ≡ r.number)
 
 -- this is the task that the next start gets, if it is not refused
 abbrev pub FirstIs : TableView → Option Seat → Type 0
@@ -47,6 +52,10 @@ NoneKept m = (i : ℕ) (x : Seat) → slot_of m.slots i ≡ Some x → x.kept �
 -- a slot holds a task that stands in the queue: it waits, or is kept
 abbrev pub stands_in_queue : Option Seat → Bool
 stands_in_queue o = option_map_or (λ x. waits (task_in x) || x.kept) o false
+
+-- some task that stands in the queue is due
+abbrev pub IsRipe : TableView → Type 0
+IsRipe m = (i : ℕ) × (x : Seat) × (slot_of m.slots i ≡ Some x) × (stands_in_queue (Some x) ≡ true) × (x.due ≤ m.moment)
 
 -- how many tasks stand in the queue
 abbrev pub queue_in : List (Option Seat) → ℕ

@@ -14,6 +14,7 @@ use Rattle.executor_model.specs.State.{due_past}
 use Rattle.task_table.specs.declared.seat.Seat.{Seat}
 use Rattle.task_table.specs.declared.answers.Begun.{Begun}
 use Rattle.task_table.specs.declared.answers.Ended.{Ended}
+use Rattle.task_table.specs.declared.answers.RunEnd.{RunEnd}
 use Rattle.task_table.specs.declared.answers.StartError.{StartError}
 use Rattle.task_table.specs.declared.answers.StartError.TheVariants as e
 use Rattle.task_table.specs.Seats.{task_in, slot_of, waits, is_alive, is_running_in}
@@ -80,6 +81,18 @@ FailsStart m worker e.Full = IsFree m worker × IsFull m
 abbrev pub IsLeft : Outcome → Seat → Type 0
 IsLeft (o.Again next) x = waits (task_in x) ≡ true
 IsLeft _ x = is_alive (task_in x) ≡ false
+
+-- the run that a worker has under way, which ended so, comes to this
+pub record IsEndOf (m : TableView) (worker : ℕ) (ending : Ending) (e : RunEnd) : Type 0 where
+  pub within : worker < workers_of m
+  pub works : slice_index_or m.work worker None ≡ Some e.task.slot
+  pub task : Seat
+  pub there : slot_of m.slots e.task.slot ≡ Some task
+  pub number : e.task.number ≡ task.number
+  pub run : e.run ≡ task.run
+  pub due : e.due ≡ due_past task.timing task.due m.moment
+  pub outcome : e.outcome ≡ outcome_in task.cancelled (stops_periodic m.shut m.stopped m.policies) task.timing (due_past task.timing task.due m.moment) ending
+  pub runs : is_running_in task.phase ≡ true
 
 -- a worker ends this run: the one that it has under way
 pub record Ends (old new : TableView) (worker : ℕ) (ending : Ending) (e : Ended) : Type 0 where

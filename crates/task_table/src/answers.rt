@@ -21,6 +21,17 @@ pub struct Ended {
     pub outcome: Outcome,
 }
 
+/// What the end of a run comes to.
+#[derive(Clone, Copy, Debug, PartialEq, Eq)]
+pub struct RunEnd {
+    pub task: TaskRef,
+    /// The number of the run, from 0.
+    pub run: u64,
+    /// The due moment that the task holds from then on, in nanoseconds, at most 2^63: that of the next run, where it may have one.
+    pub due: u64,
+    pub outcome: Outcome,
+}
+
 /// How far the executor is.
 #[derive(Clone, Copy, Debug, PartialEq, Eq)]
 pub struct Asked {

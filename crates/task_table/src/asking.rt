@@ -1,5 +1,5 @@
 //! Questions: how far the executor is.
-ghost use Rattle.std.specs.Prelude.{◌≡◌, ◌≤◌, count_by, is_some};
+ghost use Rattle.std.specs.Prelude.{◌≡◌, ◌≤◌, ◌↔◌, count_by, is_some, IsTrue};
 ghost use Rattle.queue_code.specs.Calls.{how_many};
 ghost use Rattle.queue_code.specs.declared.call.CodeCall.TheVariants as call;
 ghost use Rattle.sched_time.specs.Times.{longest};
@@ -15,7 +15,7 @@ use std::alloc::Allocator;
 
 impl<S: Slots, Q: TaskQueue, A: Allocator> Table<S, Q, A> {
     ghost use Rattle.task_table.specs.Tables.{CallSteps};
-    ghost use Rattle.task_table.specs.Firsts.{queue_in};
+    ghost use Rattle.task_table.specs.Firsts.{queue_in, IsRipe};
     ghost use Rattle.task_table.specs.own.Formed.{IsFormed};
 
     /// A call asks, at the moment `at`, how far the executor is.
@@ -34,13 +34,27 @@ impl<S: Slots, Q: TaskQueue, A: Allocator> Table<S, Q, A> {
         let queue = self.queued();
         let running = self.running();
         let shutdown = self.is_shut();
-        let terminated = is_over(shutdown, queue, running);
+        let terminated = shutdown && queue == 0 && running == 0;
         self.pass(at);
         Asked {
             queue,
             running,
             shutdown,
             terminated,
+        }
+    }
+
+    /// Whether some task that waits, or is kept, is due. It looks at the first entry of each queue alone.
+    pub fn is_ripe(&self) -> bool
+        ensures { IsTrue result ↔ IsRipe self.now }
+    {
+        let now = self.now();
+        match self.first_due() {
+            Some(_) => true,
+            None => match self.first_kept() {
+                Some(kept) => kept.due <= now,
+                None => false,
+            },
         }
     }
 
@@ -58,11 +72,4 @@ impl<S: Slots, Q: TaskQueue, A: Allocator> Table<S, Q, A> {
     {
         self.work.iter().filter(|slot| slot.is_some()).count()
     }
-}
-
-/// Whether the executor is shut, and nothing is queued or run.
-fn is_over(shutdown: bool, queue: usize, running: usize) -> bool
-    ensures { result ≡ is_terminated shutdown queue running }
-{
-    shutdown && queue == 0 && running == 0
 }

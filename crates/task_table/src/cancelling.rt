@@ -1,5 +1,6 @@
 //! Cancels of tasks that have a slot, by a call or from outside, and calls that change no task.
 ghost use Rattle.std.specs.Prelude.{◌≡◌, ℕ, ◌<◌, ◌≤◌, ◌&&◌, not, true, List, Some};
+ghost use Rattle.std.specs.Option.{option_map_or};
 ghost use Rattle.queue_code.specs.Calls.{Planned};
 ghost use Rattle.queue_code.specs.declared.call.CodeCall.TheVariants as call;
 ghost use Rattle.sched_time.specs.Times.{longest};
@@ -83,6 +84,17 @@ impl<S: Slots, Q: TaskQueue, A: Allocator> Table<S, Q, A> {
             (bare (answer.Refuse number refusal.Illegal)) }
     {
         self.moment = at;
+    }
+
+    /// What a cancel of the task in a slot would do, and [`CancelEffect::Absent`] where the slot is empty or there is none of this
+    /// number.
+    pub fn effect(&self, slot: u32) -> CancelEffect
+        ensures { result ≡ option_map_or effect_of (slot_of self.now.slots slot) effects.Absent }
+    {
+        match self.seat(slot) {
+            Some(seat) => effect_on(&seat),
+            None => CancelEffect::Absent,
+        }
     }
 
     /// Cancels the task in a slot, if a cancel has an effect on it.

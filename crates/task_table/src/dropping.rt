@@ -63,7 +63,7 @@ impl<S: Slots, Q: TaskQueue, A: Allocator> Table<S, Q, A> {
     }
 
     /// The entry of the first kept task, and `None` where none is kept.
-    fn first_kept(&self) -> Option<Entry>
+    pub(crate) fn first_kept(&self) -> Option<Entry>
         ensures first { IfSome result
             (λ entry. HeadsKept self.now entry.slot entry.due entry.number) }
         ensures none { IfNone result (NoneKept self.now) }

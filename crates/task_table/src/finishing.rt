@@ -5,9 +5,8 @@ ghost use Rattle.sched_time.specs.declared.timing.Ending as endings;
 ghost use Rattle.executor_model.specs.Answers as replies;
 ghost use Rattle.executor_model.specs.State.{due_past};
 ghost use Rattle.task_table.specs.Changes as changes;
-ghost use Rattle.task_table.specs.own.Queues as own_queues;
 
-use crate::answers::Ended;
+use crate::answers::{Ended, RunEnd};
 use crate::queues::{Entry, TaskQueue};
 use crate::seat::{Seat, TaskRef};
 use crate::slots::Slots;
@@ -19,7 +18,7 @@ use std::alloc::Allocator;
 impl<S: Slots, Q: TaskQueue, A: Allocator> Table<S, Q, A> {
     ghost use Rattle.task_table.specs.Tables.{workers_of};
     ghost use Rattle.task_table.specs.Seats.{slot_of};
-    ghost use Rattle.task_table.specs.Runs.{IsFinishError, Ends, FailsFinish};
+    ghost use Rattle.task_table.specs.Runs.{IsFinishError, IsEndOf, Ends, FailsFinish};
     ghost use Rattle.task_table.specs.own.Formed.{IsFormed, IsAtWork};
 
     /// A worker has run its task, and the run ended so: with a value, or by a fault.
@@ -35,9 +34,48 @@ impl<S: Slots, Q: TaskQueue, A: Allocator> Table<S, Q, A> {
         ensures failed { IfErr result (λ error. FailsFinish self.old worker ending error) }
     {
         match self.work_of(worker) {
-            Ok(at) => Ok(self.end_run(worker, at.0, at.1, ending)),
+            Ok(at) => {
+                let end = self.run_end(at.0, &at.1, ending);
+                self.end(worker, at.0, at.1, end.outcome, end.due);
+                Ok(Ended {
+                    task: end.task,
+                    run: end.run,
+                    outcome: end.outcome,
+                })
+            }
             Err(error) => Err(error),
         }
+    }
+
+    /// What a finish by a worker would come to now, whose run ended so: with a value, or by a fault. [`end_as`](Table::end_as) makes
+    /// it so.
+    ///
+    /// # Errors
+    ///
+    /// [`EventError::NoWorker`] where there is no such worker, and [`EventError::NotRunning`] where it has no run under way.
+    #[inline(always)]
+    pub fn end_of(&self, worker: u8, ending: Ending) -> Result<RunEnd, EventError>
+        ensures end { IfOk result (λ end. IsEndOf self.now worker ending end) }
+        ensures failed { IfErr result (λ error. FailsFinish self.now worker ending error) }
+    {
+        match self.work_of(worker) {
+            Ok(at) => Ok(self.run_end(at.0, &at.1, ending)),
+            Err(error) => Err(error),
+        }
+    }
+
+    /// A worker has run its task, and that comes to what [`end_of`](Table::end_of) told, since which nothing happened: this is a
+    /// [`finish`](Table::finish) that is not refused.
+    #[inline(always)]
+    pub fn end_as(&mut self, worker: u8, end: RunEnd)
+        requires { (ending : endings.Ending) × IsEndOf self.old worker ending end }
+        ensures { (ending : endings.Ending) → IsEndOf self.old worker ending end
+            → Ends self.old self.new worker ending
+            (record { task = end.task; run = end.run; outcome = end.outcome }) }
+    {
+        let slot = end.task.slot;
+        let seat = self.held(slot);
+        self.end(worker, slot, seat, end.outcome, end.due);
     }
 
     /// The slot of the task that a worker runs, and what it holds.
@@ -50,26 +88,16 @@ impl<S: Slots, Q: TaskQueue, A: Allocator> Table<S, Q, A> {
         ensures none { IfErr result (λ error. IsFinishError self.now worker error) }
         ensures formed { IfOk result (λ _. IsFormed self.now) }
     {
-        if worker as usize >= self.workers() {
+        let place = worker as usize;
+        if place >= self.workers() {
             return Err(EventError::NoWorker);
         }
-        match self.work_at(worker) {
+        match self.work[place] {
             Some(slot) => {
                 let seat = self.held(slot);
                 Ok((slot, seat))
             }
             None => Err(EventError::NotRunning),
-        }
-    }
-
-    /// The slot of the task that a worker runs, if there is the worker, and it runs one.
-    fn work_at(&self, worker: u8) -> Option<u32>
-        ensures works { result ≡ slice_index_or self.now.work worker None }
-        ensures formed { IsFormed self.now }
-    {
-        match self.work.get(worker as usize) {
-            Some(slot) => *slot,
-            None => None,
         }
     }
 
@@ -80,25 +108,32 @@ impl<S: Slots, Q: TaskQueue, A: Allocator> Table<S, Q, A> {
         self.stopped || (self.shut && !self.policies.continues)
     }
 
-    /// A worker ends the run of the task in a slot, which it has under way.
+    /// What the end of the run comes to that the task in a slot has under way.
     #[inline(always)]
-    fn end_run(&mut self, worker: u8, slot: u32, seat: Seat, ending: Ending) -> Ended
-        requires formed { IsFormed self.old }
-        requires worker { worker < workers_of self.old }
-        requires works { slice_index_or self.old.work worker None ≡ Some slot }
-        requires there { slot_of self.old.slots slot ≡ Some seat }
-        requires runs { IsAtWork self.old.moment seat }
-        ensures { Ends self.old self.new worker ending result }
+    fn run_end(&self, slot: u32, seat: &Seat, ending: Ending) -> RunEnd
+        requires { seat.now.due ≤ longest }
+        ensures slot { result.task.slot ≡ slot }
+        ensures number { result.task.number ≡ seat.now.number }
+        ensures run { result.run ≡ seat.now.run }
+        ensures due { result.due ≡ due_past seat.now.timing seat.now.due self.now.moment }
+        ensures outcome { result.outcome
+            ≡ replies.outcome_in seat.now.cancelled
+            (replies.stops_periodic self.now.shut self.now.stopped self.now.policies)
+            seat.now.timing result.due ending }
     {
         let now = self.now();
         let stops = self.stops();
-        let due = due_after(&seat, now);
-        let outcome = outcome_of(&seat, stops, due, ending);
+        let due = due_after(seat, now);
+        let outcome = outcome_of(seat, stops, due, ending);
         let number = seat.number;
         let run = seat.run;
-        self.end(worker, slot, seat, outcome, due);
         let task = TaskRef { number, slot };
-        Ended { task, run, outcome }
+        RunEnd {
+            task,
+            run,
+            due,
+            outcome,
+        }
     }
 
     /// The run of a worker's task ended with this outcome, and the task holds this due moment from then on.
@@ -115,7 +150,7 @@ impl<S: Slots, Q: TaskQueue, A: Allocator> Table<S, Q, A> {
         let number = seat.number;
         self.slots.end(slot, seat, outcome, due);
         self.work[worker as usize] = None;
-        if is_again(outcome) {
+        if let Outcome::Again(_) = outcome {
             self.queue.insert(Entry { due, number, slot });
         }
     }
@@ -146,29 +181,12 @@ fn outcome_of(seat: &Seat, stops: bool, due: u64, ending: Ending) -> Outcome
     match (ending, seat.timing) {
         (Ending::Fault(code), _) => Outcome::Failed(code),
         (Ending::Value(value), Timing::Once) => Outcome::Done(value),
-        (Ending::Value(_), Timing::Rate(_)) | (Ending::Value(_), Timing::Fixed(_)) => next_run(
-            stops, due,
-        ),
-    }
-}
-
-/// What comes after a run of a periodic task.
-fn next_run(stops: bool, due: u64) -> Outcome
-    ensures { result ≡ replies.next_run stops due }
-{
-    if stops {
-        Outcome::Ended
-    } else {
-        Outcome::Again(due)
-    }
-}
-
-/// Whether a task goes on after a run with this outcome.
-fn is_again(outcome: Outcome) -> bool
-    ensures { result ≡ own_queues.is_again outcome }
-{
-    match outcome {
-        Outcome::Again(_) => true,
-        Outcome::Done(_) | Outcome::Failed(_) | Outcome::Dropped | Outcome::Ended => false,
+        (Ending::Value(_), Timing::Rate(_)) | (Ending::Value(_), Timing::Fixed(_)) => {
+            if stops {
+                Outcome::Ended
+            } else {
+                Outcome::Again(due)
+            }
+        }
     }
 }

@@ -23,7 +23,8 @@
 //!
 //! The steps are those of a [`Table`], whatever keeps its tasks and its queues: [`Slots`] and [`TaskQueue`] are what it asks of
 //! these. A `TaskTable` is one with [`Seats`], which hold whole tasks and can be emptied, and with two [`NumberedQueue`]s. Its
-//! `new`, `reserve`, `release` and `seats` are its own: no other crate makes a `Table` of other slots.
+//! `new`, `reserve`, `release` and `seats` are its own. [`Table::with`] makes one of other slots and queues, as the crate
+//! `plan_table` does for the tasks of a plan, and [`stored`](Table::stored) gives them.
 //!
 //! # Behaviour
 //!
@@ -40,6 +41,11 @@
 //! [`drop_kept`](Table::drop_kept), each until the answer is `None`; so it learns the slot of each, and can release it. The
 //! calls that sweep put the tasks that they end into a list, ascending by number.
 //!
+//! Two of these calls can be made in steps. One above that writes down who ends as it goes sets the policy, or what says that the
+//! executor is shut, alone, by [`set`](Table::set), [`shut_at`](Table::shut_at) or [`stop_at`](Table::stop_at), and then sweeps
+//! slot by slot, by [`sweep_slot`](Table::sweep_slot). One that has to know first what a finish comes to asks
+//! [`end_of`](Table::end_of), and makes it so by [`end_as`](Table::end_as).
+//!
 //! # Moments
 //!
 //! A moment is a number of nanoseconds, at most 2^62, and a due moment at most 2^63. The table reads no clock: it is told each
@@ -55,7 +61,7 @@
 //! # Memory and cost
 //!
 //! A `TaskTable` takes memory for each slot (what it holds, and an entry in each of two queues) and for each worker, and only in `new`
-//! and `reserve`. A call that admits, starts, finishes, cancels or drops a task takes the time of a change of a binary heap. A
+//! and `reserve`. A call that admits, starts, finishes, cancels, drops or ends a task takes the time of a change of a binary heap. A
 //! sweep goes over all slots, and sorts the tasks that it ends; `ask` goes over the workers; `reserve` may move all slots. All
 //! other calls take constant time.
 #![tactic(auto)]
@@ -75,7 +81,7 @@ mod starting;
 mod sweeping;
 mod table;
 
-pub use answers::{Asked, Begun, Ended, StartError};
+pub use answers::{Asked, Begun, Ended, RunEnd, StartError};
 pub use numbered::NumberedQueue;
 pub use queues::{Entry, TaskQueue};
 pub use seat::{Seat, TaskRef};

@@ -127,9 +127,18 @@ fn seat_after(seat: Seat, outcome: Outcome, due: u64) -> Seat
 {
     let seat = Seat { due, ..seat };
     match outcome {
-        Outcome::Done(_) => in_phase(seat, Stage::Done),
-        Outcome::Failed(_) => in_phase(seat, Stage::Failed),
-        Outcome::Dropped => in_phase(seat, Stage::Dropped),
+        Outcome::Done(_) => Seat {
+            phase: Stage::Done,
+            ..seat
+        },
+        Outcome::Failed(_) => Seat {
+            phase: Stage::Failed,
+            ..seat
+        },
+        Outcome::Dropped => Seat {
+            phase: Stage::Dropped,
+            ..seat
+        },
         Outcome::Ended => Seat {
             phase: Stage::Dropped,
             cancelled: true,
@@ -141,11 +150,4 @@ fn seat_after(seat: Seat, outcome: Outcome, due: u64) -> Seat
             ..seat
         },
     }
-}
-
-/// A task in another phase.
-fn in_phase(seat: Seat, phase: Stage) -> Seat
-    ensures { result ≡ record seat { phase = phase } }
-{
-    Seat { phase, ..seat }
 }

@@ -24,7 +24,10 @@ impl<S: Slots, Q: TaskQueue, A: Allocator> Table<S, Q, A> {
     pub fn setting_sweeps(&self, which: Which, value: bool) -> bool
         ensures { result ≡ replies.setting_sweeps self.now.shut which value }
     {
-        self.shut && !value && !is_remove(which)
+        match which {
+            Which::Remove => false,
+            Which::Continue | Which::Execute => self.shut && !value,
+        }
     }
 
     /// A call sets a policy, at the moment `at`. Where that sweeps, `ends` holds the tasks that it ends, ascending by number,
@@ -127,8 +130,9 @@ impl<S: Slots, Q: TaskQueue, A: Allocator> Table<S, Q, A> {
         self.sweep(ends);
     }
 
-    /// A policy is set at a moment.
-    fn set(&mut self, at: u64, which: Which, value: bool)
+    /// A policy is set at the moment `at`, and nothing else: where that sweeps, the one above sweeps each slot after it, by
+    /// [`sweep_slot`](Table::sweep_slot).
+    pub fn set(&mut self, at: u64, which: Which, value: bool)
         requires moment { self.old.moment ≤ at }
         requires limit { at ≤ longest }
         ensures { self.new
@@ -140,8 +144,9 @@ impl<S: Slots, Q: TaskQueue, A: Allocator> Table<S, Q, A> {
         self.policies = policies;
     }
 
-    /// The executor is shut at a moment.
-    fn shut_at(&mut self, at: u64)
+    /// The executor is shut at the moment `at`, and nothing else: the one above sweeps each slot after it, by
+    /// [`sweep_slot`](Table::sweep_slot).
+    pub fn shut_at(&mut self, at: u64)
         requires moment { self.old.moment ≤ at }
         requires limit { at ≤ longest }
         ensures { self.new ≡ record (changes.at_moment self.old at) { shut = true } }
@@ -150,8 +155,9 @@ impl<S: Slots, Q: TaskQueue, A: Allocator> Table<S, Q, A> {
         self.shut = true;
     }
 
-    /// The executor is shut, and stopped, at a moment.
-    fn stop_at(&mut self, at: u64)
+    /// The executor is shut, and stopped, at the moment `at`, and nothing else: the one above sweeps each slot after it, by
+    /// [`sweep_slot`](Table::sweep_slot).
+    pub fn stop_at(&mut self, at: u64)
         requires moment { self.old.moment ≤ at }
         requires limit { at ≤ longest }
         ensures { self.new
@@ -160,15 +166,5 @@ impl<S: Slots, Q: TaskQueue, A: Allocator> Table<S, Q, A> {
         self.moment = at;
         self.shut = true;
         self.stopped = true;
-    }
-}
-
-/// Whether the policy is that on removal at a cancel.
-fn is_remove(which: Which) -> bool
-    ensures { result ≡ replies.is_remove which }
-{
-    match which {
-        Which::Remove => true,
-        Which::Continue | Which::Execute => false,
     }
 }

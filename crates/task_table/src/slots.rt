@@ -2,6 +2,7 @@
 ghost use Rattle.std.specs.Prelude.{◌≡◌, ◌≢◌, ℕ, ◌+◌, ◌<◌, ◌^◌, Bool, true, false, List, Option, Some, None, length, slice_set};
 ghost use Rattle.executor_model.specs.declared.task.Stage.TheVariants as ph;
 ghost use Rattle.executor_model.specs.declared.types.Outcome.TheVariants as o;
+ghost use Rattle.sched_time.specs.declared.timing.Timing.TheVariants as t;
 ghost use Rattle.task_table.specs.declared.seat.Seat.{Seat};
 ghost use Rattle.task_table.specs.Seats.{slot_of};
 ghost use Rattle.task_table.specs.Changes.{submitted, begun, ended, cancelled_keeping, unkept};
@@ -51,6 +52,7 @@ pub trait Slots {
         requires there { slot_of (seats self.old) slot ≡ Some seat }
         requires runs { (seat.phase ≡ ph.Running) × (may_run seat.run ≡ true) }
         requires live { outcome ≢ o.Dropped → seat.cancelled ≡ false }
+        requires again { (next : ℕ) → outcome ≡ o.Again next → seat.timing ≢ t.Once }
         ensures { seats self.new ≡ slice_set (seats self.old) slot (Some (ended outcome due seat)) };
 
     /// The task in a slot is cancelled, and kept from then on where `keeps` says so, or where it was kept before.

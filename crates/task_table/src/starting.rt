@@ -18,7 +18,7 @@ use std::alloc::Allocator;
 impl<S: Slots, Q: TaskQueue, A: Allocator> Table<S, Q, A> {
     ghost use Rattle.task_table.specs.Tables.{EventSteps};
     ghost use Rattle.task_table.specs.Seats.{slot_of};
-    ghost use Rattle.task_table.specs.Firsts.{IsFirstDue, NoneDue, NoneMet, IsEarliest, NoneWaits};
+    ghost use Rattle.task_table.specs.Firsts.{IsFirstDue, IsFirst, NoneDue, NoneMet, IsEarliest, NoneWaits};
     ghost use Rattle.task_table.specs.Runs.{IsFree, IsFull, MayRun, IsStartError, Starts, FailsStart, FailsClock};
     ghost use Rattle.task_table.specs.own.Formed.{IsFormed};
     ghost use Rattle.task_table.specs.own.Heads.{HeadsQueue};
@@ -56,6 +56,18 @@ impl<S: Slots, Q: TaskQueue, A: Allocator> Table<S, Q, A> {
     {
         let least = self.queue.first()?;
         Some(least.due)
+    }
+
+    /// The first task that waits and is due: the one of which a start by a worker without work begins a run. `None` where none is.
+    pub fn first(&self) -> Option<TaskRef>
+        ensures first { IfSome result (λ task. IsFirst self.now task) }
+        ensures none { IfNone result (NoneDue self.now) }
+    {
+        let entry = self.first_due()?;
+        Some(TaskRef {
+            number: entry.number,
+            slot: entry.slot,
+        })
     }
 
     /// The entry of the first task that waits and is due, and `None` where none is.
@@ -117,23 +129,10 @@ impl<S: Slots, Q: TaskQueue, A: Allocator> Table<S, Q, A> {
     {
         match self.start_error(worker) {
             Some(error) => Err(StartError::Refused(error)),
-            None => self.start_free(worker),
-        }
-    }
-
-    /// A worker that has no work asks for some.
-    #[inline(always)]
-    fn start_free(&mut self, worker: u8) -> Result<Option<Begun>, StartError>
-        requires free { IsFree self.old worker }
-        requires met { NoneMet self.old }
-        requires runs { MayRun S.may_run self.old }
-        ensures started { IfOk result (λ begun. Starts self.old self.new worker begun) }
-        ensures unchanged { OnErr result (self.new ≡ self.old) }
-        ensures failed { IfErr result (λ error. FailsStart self.old worker error) }
-    {
-        match self.first_due() {
-            Some(first) => self.start_first(worker, first.slot),
-            None => Ok(None),
+            None => match self.first_due() {
+                Some(first) => self.start_first(worker, first.slot),
+                None => Ok(None),
+            },
         }
     }
 

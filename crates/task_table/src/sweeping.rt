@@ -1,8 +1,9 @@
 //! The tasks that a sweep ends.
-ghost use Rattle.std.specs.Prelude.{◌≡◌, ◌<◌, ◌≤◌, ◌++◌, true, false, [], Some, length, vec_capacity};
+ghost use Rattle.std.specs.Prelude.{◌≡◌, ◌<◌, ◌≤◌, true, false, [], Some, length, vec_capacity};
 ghost use Rattle.std.specs.List.Sorted.{IsPermutation, IsNonDecreasingBy};
-ghost use Rattle.executor_model.specs.Answers as replies;
+ghost use Rattle.std.specs.Option.{option_map_or};
 ghost use Rattle.task_table.specs.Changes as changes;
+ghost use Rattle.task_table.specs.Ends as sweeps;
 ghost use Rattle.task_table.specs.declared.seat.TaskRef as refs;
 
 use crate::cancelling::is_waiting;
@@ -16,8 +17,6 @@ use std::alloc::Allocator;
 impl<S: Slots, Q: TaskQueue, A: Allocator> Table<S, Q, A> {
     ghost use Rattle.task_table.specs.Seats.{slot_of};
     ghost use Rattle.task_table.specs.Endings.{SweepEnds};
-    ghost use Rattle.task_table.specs.own.Formed.{IsFormed};
-    ghost use Rattle.task_table.specs.own.Found.{ref_of, ends_task, swept_in};
 
     /// Ends each task that a sweep ends, and tells them in ascending number.
     pub(crate) fn sweep<B: Allocator>(&mut self, ends: &mut Vec<TaskRef, B>)
@@ -26,47 +25,49 @@ impl<S: Slots, Q: TaskQueue, A: Allocator> Table<S, Q, A> {
         ensures ends { SweepEnds self.old self.new ends.new.items }
         ensures room { vec_capacity ends.new ≡ vec_capacity ends.old }
     {
-        let count = self.count();
+        let count = self.slots.len() as u32;
         for slot in 0..count {
-            self.sweep_slot(slot, ends);
+            let ended = self.sweep_slot(slot);
+            if ended {
+                let number = self.held(slot).number;
+                ends.push_reserved(TaskRef { number, slot });
+            }
         }
         sort_by_number(ends);
     }
 
-    /// How many slots there are.
-    fn count(&self) -> u32
-        ensures count { result ≡ length self.now.slots }
-        ensures formed { IsFormed self.now }
-    {
-        self.slots.len() as u32
-    }
-
-    /// Ends the task in a slot, if a sweep ends it.
-    fn sweep_slot<B: Allocator>(&mut self, slot: u32, ends: &mut Vec<TaskRef, B>)
+    /// Ends the task in a slot, if a sweep under the policies and at the moment that the table has ends it, and says whether it did.
+    ///
+    /// Once it was called for each slot, the table is swept, as a call that sweeps leaves it.
+    pub fn sweep_slot(&mut self, slot: u32) -> bool
         requires within { slot < length self.old.slots }
-        requires room { length ends.old.items < vec_capacity ends.old }
-        ensures swept { self.new ≡ swept_in (slot_of self.old.slots slot) self.old slot }
-        ensures found { ends.new.items
-            ≡ ends.old.items ++ ref_of (ends_task self.old) slot (slot_of self.old.slots slot) }
-        ensures room { vec_capacity ends.new ≡ vec_capacity ends.old }
+        ensures swept { self.new
+            ≡ changes.swept_in (slot_of self.old.slots slot) self.old slot }
+        ensures ends { result ≡ sweeps.ends_at_slot self.old slot }
     {
-        if let Some(seat) = self.seat(slot) {
-            let number = seat.number;
-            let ended = self.ends(&seat);
-            if ended {
-                self.end_seat(slot, seat);
-                ends.push_reserved(TaskRef { number, slot });
+        match self.seat(slot) {
+            Some(seat) => {
+                let ended = is_swept(&seat, self.is_stopped(), self.policies(), self.now());
+                if ended {
+                    self.end_seat(slot, seat);
+                }
+                ended
             }
+            None => false,
         }
     }
 
-    /// Whether a sweep ends a task.
-    fn ends(&self, seat: &Seat) -> bool
-        ensures { result ≡ ends_task self.now seat.now }
+    /// Whether a sweep under these policies, at the moment `now`, in nanoseconds, would end the task in a slot, where the executor is
+    /// stopped or not. It would end none where the slot is empty or there is none of this number.
+    pub fn ends_under(&self, slot: u32, stopped: bool, policies: Policies, now: u64) -> bool
+        ensures { result
+            ≡ option_map_or (sweeps.is_swept stopped policies now)
+            (slot_of self.now.slots slot) false }
     {
-        is_waiting(seat.phase)
-            && !seat.cancelled
-            && (self.stopped || bars_runs(seat, self.policies, self.moment))
+        match self.seat(slot) {
+            Some(seat) => is_swept(&seat, stopped, policies, now),
+            None => false,
+        }
     }
 
     /// Cancels the task in a slot, and takes it out of the queue.
@@ -80,13 +81,16 @@ impl<S: Slots, Q: TaskQueue, A: Allocator> Table<S, Q, A> {
     }
 }
 
-/// Whether these policies bar the runs of a task that waits, at this moment.
-fn bars_runs(seat: &Seat, policies: Policies, now: u64) -> bool
-    ensures { result ≡ replies.bars_runs policies now seat.now.timing seat.now.due }
+/// Whether a sweep under these policies, at this moment, ends a task, where the executor is stopped or not.
+fn is_swept(seat: &Seat, stopped: bool, policies: Policies, now: u64) -> bool
+    ensures { result ≡ sweeps.is_swept stopped policies now seat.now }
 {
+    if seat.cancelled || !is_waiting(seat.phase) {
+        return false;
+    }
     match seat.timing {
-        Timing::Once => !policies.executes && now < seat.due,
-        Timing::Rate(_) | Timing::Fixed(_) => !policies.continues,
+        Timing::Once => stopped || (!policies.executes && now < seat.due),
+        Timing::Rate(_) | Timing::Fixed(_) => stopped || !policies.continues,
     }
 }
 

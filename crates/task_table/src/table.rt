@@ -1,5 +1,5 @@
 //! The table, and what comes into its slots and leaves them.
-ghost use Rattle.std.specs.Prelude.{◌≡◌, ℕ, ◌<◌, ◌≤◌, ◌+◌, true, false, List, [], length, Some, None, IsOk, IfOk, OnOk, OnErr};
+ghost use Rattle.std.specs.Prelude.{◌≡◌, ℕ, ◌<◌, ◌≤◌, ◌+◌, ◌^◌, true, false, List, [], length, replicate, Some, None, IsOk, IfOk, OnOk, OnErr};
 ghost use Rattle.queue_code.specs.Calls.{Planned, IsTimed};
 ghost use Rattle.queue_code.specs.declared.call.CodeCall.TheVariants as call;
 ghost use Rattle.sched_time.specs.Times.{longest};
@@ -77,16 +77,8 @@ impl<A: Allocator> TaskTable<A> {
         work.resize(workers as usize, None)?;
         let queue = NumberedQueue::new(alloc)?;
         let kept = NumberedQueue::new(alloc)?;
-        Ok(Table {
-            moment: 0,
-            slots: Seats::new(alloc),
-            work,
-            queue,
-            kept,
-            policies: Policies::defaults(),
-            shut: false,
-            stopped: false,
-        })
+        let slots = Seats::new(alloc);
+        Ok(Table::with(slots, queue, kept, work))
     }
 
     /// Makes room, so that there are at least `slots` slots. The new ones are empty.
@@ -141,9 +133,45 @@ impl<A: Allocator> TaskTable<A> {
 }
 
 impl<S: Slots, Q: TaskQueue, A: Allocator> Table<S, Q, A> {
-    ghost use Rattle.task_table.specs.Tables.{workers_of, CallSteps};
+    ghost use Rattle.task_table.specs.Tables.{workers_of, Stands, CallSteps};
     ghost use Rattle.task_table.specs.Seats.{slot_of, IsNew};
     ghost use Rattle.task_table.specs.Changes.{admitted, at_moment};
+
+    /// A table of these slots, all of them empty, before anything happened. It has as many workers as `work` has entries, 1 to 64,
+    /// of which none has work.
+    ///
+    /// `queue` is for the tasks that wait, and `kept` for those that are kept: both are empty, and have room for each slot.
+    pub fn with(slots: S, queue: Q, kept: Q, work: Vec<Option<u32>, A>) -> Table<S, Q, A>
+        requires empty { (i : ℕ) → slot_of (S.seats slots) i ≡ None }
+        requires count { length (S.seats slots) < 2 ^ 32 }
+        requires queue { ((i : ℕ) → Q.keys queue i ≡ None)
+            × (length (S.seats slots) ≤ Q.room queue) }
+        requires kept { ((i : ℕ) → Q.keys kept i ≡ None)
+            × (length (S.seats slots) ≤ Q.room kept) }
+        requires workers { (workers : ℕ) × IsWorkerCount workers
+            × (work.items ≡ replicate workers None) }
+        ensures slots { result.slots ≡ S.seats slots }
+        ensures work { result.work ≡ work.items }
+        ensures stands { Stands result [] [] }
+    {
+        Table {
+            moment: 0,
+            slots,
+            work,
+            queue,
+            kept,
+            policies: Policies::defaults(),
+            shut: false,
+            stopped: false,
+        }
+    }
+
+    /// What keeps the tasks.
+    pub fn stored(&self) -> &S
+        ensures { S.seats result.now ≡ self.now.slots }
+    {
+        &self.slots
+    }
 
     /// How many workers there are: those from 0 to one less.
     pub fn workers(&self) -> usize
@@ -186,6 +214,13 @@ impl<S: Slots, Q: TaskQueue, A: Allocator> Table<S, Q, A> {
         ensures { result ≡ self.now.shut }
     {
         self.shut
+    }
+
+    /// Whether a call to shut down at once was made.
+    pub fn is_stopped(&self) -> bool
+        ensures { result ≡ self.now.stopped }
+    {
+        self.stopped
     }
 
     /// A call submits a task, which comes into an empty slot: it waits for its first run, `delay` nanoseconds after the moment

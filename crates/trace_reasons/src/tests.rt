@@ -33,38 +33,59 @@ fn told(
     }
 }
 
-/// The text of a row: some front and then the lines of the row, with ` / ` between them.
-fn text_of_row(alloc: Global, front: &str, lines: &str) -> Result<String, Fail> {
-    let mut text = String::from_str(alloc, front)?;
-    for line in lines.split(" / ") {
+/// The text of a row: its front and what stands behind it, with ` / ` between two lines.
+fn text_of_row(alloc: Global, front: &str, behind: &str) -> Result<String, Fail> {
+    let row = format!(in alloc; "{front}{behind}")?;
+    let mut text = String::new(alloc);
+    for line in row.split(" / ") {
         text.push_str(line)?;
         text.push('\n')?;
     }
     Ok(text)
 }
 
-/// Tells of each text of a table, with this many workers. A row of the table is what is to be told, then ` | `, and then the
-/// text's lines behind `front`, with ` / ` between them.
-fn tell_with(
+/// Tells of each text of a table, held against a plan with this many workers. The table's first line is its name, then ` | `, and
+/// then the front of its texts. Each other line is a row: what is to be told, then ` | `, and then what stands behind the front.
+fn tell_table(
     rt: &(impl AllocGlobal + Abort),
     plan: &str,
     workers: u8,
-    front: &str,
     table: &str,
 ) -> Result<(), Fail> {
     let alloc = rt.alloc();
-    for row in table.lines() {
-        let (wanted, lines) = row.split_once(" | ").ok_or("no text")?;
-        let text = text_of_row(alloc, front, lines)?;
+    let (head, rows) = table.split_once('\n').ok_or("no rows")?;
+    let (name, front) = head.split_once(" | ").ok_or("no front")?;
+    if rows.is_empty() {
+        return Err("no rows".into());
+    }
+    for row in rows.lines() {
+        let (wanted, behind) = row.split_once(" | ").ok_or("no text")?;
+        let text = text_of_row(alloc, front, behind)?;
         let told = told(rt, plan, workers, text.as_bytes())??;
-        assert_eq!(rt; told.as_str(), wanted, "{row}");
+        assert_eq!(rt; told.as_str(), wanted, "{name}: {row}");
     }
     Ok(())
 }
 
-/// The same with one worker.
-fn tell(rt: &(impl AllocGlobal + Abort), plan: &str, front: &str, table: &str) -> Result<(), Fail> {
-    tell_with(rt, plan, 1, front, table)
+#[test]
+fn each_row_is_told(rt: HostRuntime) -> Result<(), Fail> {
+    for (plan, workers, tables) in [
+        (ONE_DELAY, 1u8, conforming::FRONTS),
+        (conforming::A_SHUTDOWN, 1, conforming::WANTING),
+        (ends::A_SWEEP, 1, ends::OF_A_SWEEP),
+        (ONE_DELAY, 1, ends::PAST_THE_LAST),
+        (ONE_DELAY, 1, events::OF_ONE_DELAY),
+        (A_RATE, 1, events::OF_A_RATE),
+        (ONE_DELAY, 1, shown::TABLES),
+        (ONE_DELAY, 1, unreadable::TABLES),
+        (A_RATE, 1, workers::OF_ONE),
+        (A_RATE, 3, workers::OF_THREE),
+    ] {
+        for table in tables.split("\n\n") {
+            tell_table(&rt, plan, workers, table)?;
+        }
+    }
+    Ok(())
 }
 
 /// A task that runs once, 5 nanoseconds later.

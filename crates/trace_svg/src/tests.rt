@@ -25,16 +25,9 @@ const PLAN: &str =
 
 /// A trace of it: one task is run to its end, and the other is still run at the end.
 const TRACE: &str = "\
-0 submit 0 schedule due 5
-0 submit 1 schedule due 0
-0 clock
-0 start 1 task 1 run 0 due 0
-5 clock
-5 start 0 task 0 run 0 due 5
-9 clock
-9 finish 0 task 0 run 0 done 7
-10 clock
-";
+    0 submit 0 schedule due 5\n0 submit 1 schedule due 0\n0 clock\n0 start 1 task 1 run 0 due 0\n\
+    5 clock\n5 start 0 task 0 run 0 due 5\n9 clock\n9 finish 0 task 0 run 0 done 7\n\
+    10 clock\n";
 
 /// What stands in its picture, in this order.
 const PARTS: [&str; 8] = [
@@ -54,6 +47,20 @@ const WHOLE: View = View {
     to: None,
     marks: 6,
 };
+
+fn view(from: Option<u64>, to: Option<u64>, marks: u64) -> View {
+    View { from, to, marks }
+}
+
+/// The script of a writer that fails at its call of this number, and takes 100 bytes in each.
+fn fails_at(number: u32) -> Script {
+    Script {
+        trouble_at: number,
+        trouble: Trouble::Fails(ErrorKind::BrokenPipe),
+        most: 100,
+        interrupts: 0,
+    }
+}
 
 /// The plan.
 fn plan(alloc: Global) -> Result<Plan<Global>, Fail> {
@@ -120,13 +127,8 @@ fn a_trace_is_drawn(rt: HostRuntime) -> Result<(), Fail> {
 #[test]
 fn each_fault_is_told_with_nothing_written(rt: HostRuntime) -> Result<(), Fail> {
     let alloc = rt.alloc();
-    let late = View {
-        from: Some(6),
-        to: Some(5),
-        ..WHOLE
-    };
-    let few = View { marks: 5, ..WHOLE };
-    let none = View { marks: 0, ..WHOLE };
+    let late = view(Some(6), Some(5), 6);
+    let (few, none) = (view(None, None, 5), view(None, None, 0));
     for (workers, trace, view, told) in [
         (0u8, TRACE, WHOLE, "the number of workers is not 1 to 64"),
         (1, TRACE, WHOLE, "breaks 4"),
@@ -144,12 +146,7 @@ fn each_fault_is_told_with_nothing_written(rt: HostRuntime) -> Result<(), Fail> 
 
 #[test]
 fn a_part_of_a_trace_is_drawn(rt: HostRuntime) -> Result<(), Fail> {
-    let part = View {
-        from: Some(5),
-        to: Some(9),
-        marks: 2,
-    };
-    let (answer, text) = drawn(rt.alloc(), 2, TRACE, part)?;
+    let (answer, text) = drawn(rt.alloc(), 2, TRACE, view(Some(5), Some(9), 2))?;
     assert_eq!(rt; answer.as_str(), "drawn");
     let text = std::str::from_utf8(&text)?;
     assert!(rt; text.contains("<rect class=\"done\" x=\"110\" y=\"172\" width=\"1060\""));
@@ -161,21 +158,9 @@ fn a_part_of_a_trace_is_drawn(rt: HostRuntime) -> Result<(), Fail> {
 fn a_front_is_written_where_the_writer_is_at_fault(rt: HostRuntime) -> Result<(), Fail> {
     let alloc = rt.alloc();
     let (_, whole) = drawn(alloc, 2, TRACE, WHOLE)?;
-    let script = Script {
-        trouble_at: 2,
-        trouble: Trouble::Fails(ErrorKind::BrokenPipe),
-        most: 100,
-        interrupts: 0,
-    };
-    let mut writer = Writing::new(Taking::new(alloc, script));
-    let answer = draw(
-        alloc,
-        &plan(alloc)?,
-        2,
-        TRACE.as_bytes(),
-        WHOLE,
-        &mut writer,
-    );
+    let plan = plan(alloc)?;
+    let mut writer = Writing::new(Taking::new(alloc, fails_at(2)));
+    let answer = draw(alloc, &plan, 2, TRACE.as_bytes(), WHOLE, &mut writer);
     assert!(rt; matches!(&answer, Err(DrawError::Write)));
     assert!(rt; whole.as_slice().starts_with(writer.into_inner().taken()));
     Ok(())
@@ -183,16 +168,10 @@ fn a_front_is_written_where_the_writer_is_at_fault(rt: HostRuntime) -> Result<()
 
 #[test]
 fn a_drawing_without_memory_is_none(rt: HostRuntime) -> Result<(), Fail> {
+    let plan = plan(rt.alloc())?;
     let heap = LocalHeap::new(rt.alloc(), 64)?;
     let mut writer = Writing::new(Vec::new(rt.alloc()));
-    let answer = draw(
-        &heap,
-        &plan(rt.alloc())?,
-        2,
-        TRACE.as_bytes(),
-        WHOLE,
-        &mut writer,
-    );
+    let answer = draw(&heap, &plan, 2, TRACE.as_bytes(), WHOLE, &mut writer);
     assert!(rt; matches!(&answer, Err(DrawError::Memory)));
     assert!(rt; writer.into_inner().is_empty());
     assert_eq!(rt; heap.used(), 0);
@@ -208,13 +187,7 @@ fn a_drawing_gives_all_memory_back(rt: HostRuntime) -> Result<(), Fail> {
     let answer = draw(&heap, &plan, 2, TRACE.as_bytes(), WHOLE, &mut writer);
     assert!(rt; matches!(&answer, Ok(Drawn::Drawn)));
     assert_eq!(rt; heap.used(), 0);
-    let script = Script {
-        trouble_at: 1,
-        trouble: Trouble::Fails(ErrorKind::BrokenPipe),
-        most: 100,
-        interrupts: 0,
-    };
-    let mut writer = Writing::new(Taking::new(alloc, script));
+    let mut writer = Writing::new(Taking::new(alloc, fails_at(1)));
     let answer = draw(&heap, &plan, 2, TRACE.as_bytes(), WHOLE, &mut writer);
     assert!(rt; matches!(&answer, Err(DrawError::Write)));
     assert_eq!(rt; heap.used(), 0);
@@ -223,12 +196,7 @@ fn a_drawing_gives_all_memory_back(rt: HostRuntime) -> Result<(), Fail> {
 
 #[test]
 fn a_fault_of_the_ends_has_its_text(rt: HostRuntime) -> Result<(), Fail> {
-    for (error, told) in [
-        (DrawError::Write, "write fault"),
-        (DrawError::Memory, "out of memory"),
-    ] {
-        let text = format!(in rt.alloc(); "{error}")?;
-        assert!(rt; text.as_str() == told, "{told}: {text}");
-    }
+    let text = format!(in rt.alloc(); "{}, {}", DrawError::Write, DrawError::Memory)?;
+    assert_eq!(rt; text.as_str(), "write fault, out of memory");
     Ok(())
 }

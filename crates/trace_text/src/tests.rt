@@ -1,8 +1,40 @@
-//! The examples of the comments, as they stand there: `tools/docs` compares them.
-use crate::{Front, front_event, read_event, read_line, write_line};
-use executor_model::{Answer, Event, Line, Message};
+//! The examples of the comments, as they stand there: `tools/docs` compares them; and what the tests of several modules check.
+pub mod messages;
+
+use crate::{
+    Front, LINE_ROOM, Stamp, front_event, put_line_here, read_event, read_line, write_line,
+};
+use executor_model::{Answer, Event, Line, Message, Outcome};
 use sched_time::Ending;
+use std::process::Abort;
 use std::test::Fail;
+
+/// The longest text of a line, which is that of `longest()`.
+pub const LONGEST: &str =
+    "18446744073709551615 finish 255 task 4294967295 run 18446744073709551615 again due 18446744073709551615\n";
+
+/// The line with the longest text.
+pub fn longest() -> Line {
+    let again = Outcome::Again(u64::MAX);
+    Line::new(
+        u64::MAX,
+        messages::finish(u8::MAX, u32::MAX, u64::MAX, again),
+    )
+}
+
+/// Checks that a text is read as a line, and that the line is written so.
+pub fn is_line(rt: &(impl AllocGlobal + Abort), moment: u64, message: Message, text: &str) {
+    let line = Line::new(moment, message);
+    let read = read_line(text.as_bytes());
+    assert!(rt; read == Some(line), "{text}: {read:?}");
+    let mut out = Vec::new(rt.alloc());
+    let said = write_line(&mut out, &line);
+    assert!(rt; said.is_ok(), "{text}");
+    assert!(rt; out.as_slice() == text.as_bytes(), "{text}");
+    let mut buffer = [0u8; LINE_ROOM];
+    let end = put_line_here(&mut buffer, 0, &mut Stamp::new(moment), &line);
+    assert!(rt; &buffer[..end] == text.as_bytes(), "{text}");
+}
 
 #[test]
 fn the_page_is_run(rt: HostRuntime) -> Result<(), Fail> {

@@ -95,7 +95,7 @@
 //!
 //! # Tests
 //!
-//! They stand in `src/tests`. `rows.rt` has rows of calls, with their answers and lines. Each growth of such a row is refused in
+//! They stand in `src/tests`: rows of calls, with their answers and lines. Each growth of such a row is refused in
 //! turn, and all others are granted (`growths.rt`, over the crate `refusing_allocator`): [`Shared::new`], [`Book::new`],
 //! [`Book::apply`], [`Book::note_cancels`], [`Book::admit`] and [`Book::retire`] then tell [`PoolError::Memory`], and each
 //! other call what it tells with ample memory; the refused call is made again, and the lines are those of the row; and no byte

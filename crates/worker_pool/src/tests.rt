@@ -18,7 +18,7 @@ use crate::{Applied, Book, Handle, Named, PoolError, Shared, Work};
 use executor_model::{Event, Happening, Line};
 use heap_allocator::HeapAllocator;
 use plan_compile::compile;
-use plan_read::read_plan;
+use plan_read::{Plan, read_plan};
 use queue_code::Code;
 use result_cell::Verdict;
 use std::alloc::{AllocError, AllocGlobal, Allocator, Global};
@@ -26,6 +26,7 @@ use std::marker::Brand;
 use std::process::Abort;
 use std::test::Fail;
 use task_word::{CancelAnswer, CoreSeat, TaskState};
+use trace_check::{Finding, MOST_BYTES, check};
 use trace_text::{read_event, write_line};
 
 /// What is done; handles are numbered as they were admitted.
@@ -64,9 +65,26 @@ enum Told {
 pub struct Row<'a> {
     pub name: &'a str,
     pub plan: &'a str,
-    pub limit: u32,
     pub script: &'a str,
     pub trace: &'a str,
+}
+
+/// The plan of a task that is due at moment 0.
+const ONE_TASK: &str =
+    "version = 1\n[[block]]\ncall = [{ op = 'schedule', name = 'a', delay = 0 }]";
+
+/// The plan of two tasks that are due at moment 0.
+const TWO_TASKS: &str =
+    "version = 1\n[[block]]\ncall = [{ op = 'schedule', name = 'a', delay = 0 },\
+                         { op = 'schedule', name = 'b', delay = 0 }]";
+
+/// A limit that is not reached.
+const AMPLE: u32 = 1_000_000;
+
+/// The code of a plan's text.
+fn code_of(alloc: Global, plan: &str) -> Result<Code<Global>, Fail> {
+    let plan = read_plan(alloc, plan.as_bytes())?;
+    Ok(compile(alloc, &plan)?)
 }
 
 /// The number that a word spells.
@@ -252,8 +270,7 @@ fn steps_of<'s, N: Named>(
         told.push(step_of(book, shared, &mut handles, *step)?)?;
     }
     let happened = happenings_of(alloc, book)?;
-    let mut lines = Vec::new(alloc);
-    lines.extend_from_slice(book.lines())?;
+    let lines = book.lines().to_vec(alloc)?;
     Ok(Played {
         told,
         happened,
@@ -292,6 +309,28 @@ fn play_code(
     book_of::<Brand>(alloc, &shared, seat, code, workers, limit, steps)
 }
 
+/// The text of some lines.
+fn text_of(alloc: Global, lines: &[Line]) -> Result<Vec<u8>, Fail> {
+    let mut text = Vec::new(alloc);
+    for line in lines {
+        write_line(&mut text, line)?;
+    }
+    Ok(text)
+}
+
+/// What is found of the text of some lines, held against a plan.
+fn found(
+    rt: &impl Abort,
+    alloc: Global,
+    plan: &Plan<Global>,
+    workers: u8,
+    lines: &[Line],
+) -> Result<Finding, Fail> {
+    let text = text_of(alloc, lines)?;
+    assert!(rt; text.len() <= MOST_BYTES);
+    Ok(check(alloc, plan, workers, &text)?)
+}
+
 /// Checks the text of the lines.
 fn check_lines(
     rt: &(impl Abort + AllocGlobal),
@@ -299,24 +338,20 @@ fn check_lines(
     lines: &[Line],
     text: &str,
 ) -> Result<(), Fail> {
-    let mut written = Vec::new(rt.alloc());
-    for line in lines {
-        write_line(&mut written, line)?;
-    }
+    let written = text_of(rt.alloc(), lines)?;
     assert!(rt; written.as_slice() == text.as_bytes(), "{name}: {text}");
     Ok(())
 }
 
-/// Checks what is told of each step of a row, and the text of the lines.
-fn plays(rt: &(impl Abort + AllocGlobal), row: &Row<'_>) -> Result<(), Fail> {
+/// Checks what is told of each step of a row, and the text of the lines, with a book that takes so many events.
+fn plays(rt: &(impl Abort + AllocGlobal), row: &Row<'_>, limit: u32) -> Result<(), Fail> {
     let alloc = rt.alloc();
-    let plan = read_plan(alloc, row.plan.as_bytes())?;
     let script = read_script(alloc, row.script)?;
     let mut steps = Vec::new(alloc);
     for (step, _) in &script {
         steps.push(*step)?;
     }
-    let played = play_code(alloc, compile(alloc, &plan)?, 1, row.limit, &steps)?;
+    let played = play_code(alloc, code_of(alloc, row.plan)?, 1, limit, &steps)?;
     assert!(rt; played.told.len() == script.len(), "{}", row.name);
     for (told, (_, wanted)) in played.told.iter().zip(&script) {
         let told = format!(in alloc; "{told:?}")?;
@@ -325,27 +360,17 @@ fn plays(rt: &(impl Abort + AllocGlobal), row: &Row<'_>) -> Result<(), Fail> {
     check_lines(rt, row.name, &played.lines, row.trace)
 }
 
-/// All rows.
-const ROWS: [Row<'static>; 13] = [
-    handles::A_SWEEP_MEETS_THE_FIRST_TASK_CANCELLED,
-    handles::A_SWEEP_MEETS_THE_MIDDLE_TASK_CANCELLED,
-    handles::A_SWEEP_MEETS_THE_LAST_TASKS_CANCELLED,
-    handles::A_SHUTDOWN_AT_ONCE_MEETS_A_CANCEL,
-    handles::HANDLES_COME_BACK_IN_ORDER,
-    handles::HANDLES_COME_BACK_IN_REVERSE,
-    handles::WHAT_NO_MOVE_MEETS_IS_NOT_NOTED,
-    handles::A_HANDLE_OUTLIVES_THE_END_OF_A_TASK,
-    limits::NOTED_CANCELS_ARE_NO_EVENTS,
-    limits::AN_EVENT_MAY_CANCEL_TOO,
-    limits::A_PLAN_CANCEL_MEETS_A_CANCEL,
-    results::VERDICTS_ARE_READ,
-    results::A_DROPPED_RUN_HAS_NO_VERDICT,
-];
-
 #[test]
 fn each_row_is_played(rt: HostRuntime) -> Result<(), Fail> {
-    for row in &ROWS {
-        plays(&rt, row)?;
+    plays(&rt, &limits::FULL, 2)?;
+    for (rows, limit) in [
+        (handles::ROWS, AMPLE),
+        (limits::ROWS, 100),
+        (results::ROWS, AMPLE),
+    ] {
+        for row in rows {
+            plays(&rt, row, limit)?;
+        }
     }
     Ok(())
 }

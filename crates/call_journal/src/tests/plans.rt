@@ -6,106 +6,26 @@ use std::alloc::Global;
 
 /// The text of the plan of [`all_kinds`].
 const TEXT_OF_ALL_KINDS: &str = "\
-version = 2\n\
-\n\
-[[block]]\n\
-\n\
-[[block.call]]\n\
-delay = 5\n\
-delay_unit = \"ns\"\n\
-name = \"t0\"\n\
-op = \"schedule\"\n\
-\n\
-[[block.call]]\n\
-name = \"t1\"\n\
-op = \"execute\"\n\
-\n\
-[[block.call]]\n\
-at = 3\n\
-at_unit = \"ns\"\n\
-first = 0\n\
-first_unit = \"ns\"\n\
-name = \"t2\"\n\
-op = \"rate\"\n\
-period = 7\n\
-period_unit = \"ns\"\n\
-\n\
-[[block.call]]\n\
-at = 3\n\
-at_unit = \"ns\"\n\
-delay = 1\n\
-delay_unit = \"ns\"\n\
-first = 4611686018427387904\n\
-first_unit = \"ns\"\n\
-name = \"t3\"\n\
-op = \"fixed\"\n\
-\n\
-[[block.call]]\n\
-at = 4\n\
-at_unit = \"ns\"\n\
-name = \"t2\"\n\
-op = \"cancel\"\n\
-\n\
-[[block.call]]\n\
-at = 4\n\
-at_unit = \"ns\"\n\
-op = \"policy\"\n\
-value = true\n\
-which = \"continue\"\n\
-\n\
-[[block.call]]\n\
-at = 5\n\
-at_unit = \"ns\"\n\
-op = \"policy\"\n\
-value = false\n\
-which = \"execute\"\n\
-\n\
-[[block.call]]\n\
-at = 5\n\
-at_unit = \"ns\"\n\
-op = \"policy\"\n\
-value = true\n\
-which = \"remove\"\n\
-\n\
-[[block.call]]\n\
-at = 6\n\
-at_unit = \"ns\"\n\
-op = \"ask\"\n\
-\n\
-[[block.call]]\n\
-at = 1000000007\n\
-at_unit = \"ns\"\n\
-op = \"shutdown\"\n\
-\n\
-[[block.call]]\n\
-at = 1000000007\n\
-at_unit = \"ns\"\n\
-delay = 0\n\
-delay_unit = \"ns\"\n\
-name = \"t4\"\n\
-op = \"schedule\"\n\
-\n\
-[[block.call]]\n\
-at = 1000000007\n\
-at_unit = \"ns\"\n\
-first = 0\n\
-first_unit = \"ns\"\n\
-name = \"t5\"\n\
-op = \"rate\"\n\
-period = 0\n\
-period_unit = \"ns\"\n\
-\n\
-[[block.call]]\n\
-at = 1000000008\n\
-at_unit = \"ns\"\n\
-name = \"t5\"\n\
-op = \"cancel\"\n\
-\n\
-[[block.call]]\n\
-at = 4611686018427387904\n\
-at_unit = \"ns\"\n\
-op = \"shutdown_now\"\n\
-";
+    version = 2\n\n\
+    [[block]]\n\n\
+    [[block.call]]\ndelay = 5\ndelay_unit = \"ns\"\nname = \"t0\"\nop = \"schedule\"\n\n\
+    [[block.call]]\nname = \"t1\"\nop = \"execute\"\n\n\
+    [[block.call]]\nat = 3\nat_unit = \"ns\"\nfirst = 0\nfirst_unit = \"ns\"\n\
+    name = \"t2\"\nop = \"rate\"\nperiod = 7\nperiod_unit = \"ns\"\n\n\
+    [[block.call]]\nat = 3\nat_unit = \"ns\"\ndelay = 1\ndelay_unit = \"ns\"\nfirst = 4611686018427387904\nfirst_unit = \"ns\"\n\
+    name = \"t3\"\nop = \"fixed\"\n\n\
+    [[block.call]]\nat = 4\nat_unit = \"ns\"\nname = \"t2\"\nop = \"cancel\"\n\n\
+    [[block.call]]\nat = 4\nat_unit = \"ns\"\nop = \"policy\"\nvalue = true\nwhich = \"continue\"\n\n\
+    [[block.call]]\nat = 5\nat_unit = \"ns\"\nop = \"policy\"\nvalue = false\nwhich = \"execute\"\n\n\
+    [[block.call]]\nat = 5\nat_unit = \"ns\"\nop = \"policy\"\nvalue = true\nwhich = \"remove\"\n\n\
+    [[block.call]]\nat = 6\nat_unit = \"ns\"\nop = \"ask\"\n\n\
+    [[block.call]]\nat = 1000000007\nat_unit = \"ns\"\nop = \"shutdown\"\n\n\
+    [[block.call]]\nat = 1000000007\nat_unit = \"ns\"\ndelay = 0\ndelay_unit = \"ns\"\n\
+    name = \"t4\"\nop = \"schedule\"\n\n\
+    [[block.call]]\nat = 1000000007\nat_unit = \"ns\"\nfirst = 0\nfirst_unit = \"ns\"\n\
+    name = \"t5\"\nop = \"rate\"\nperiod = 0\nperiod_unit = \"ns\"\n\n\
+    [[block.call]]\nat = 1000000008\nat_unit = \"ns\"\nname = \"t5\"\nop = \"cancel\"\n\n\
+    [[block.call]]\nat = 4611686018427387904\nat_unit = \"ns\"\nop = \"shutdown_now\"\n";
 
 /// A call at a moment.
 fn made(moment: u64, call: CallLine) -> MadeCall {
@@ -217,11 +137,12 @@ fn many(alloc: Global, count: usize, moment: u64, call: CallLine) -> Result<Vec<
 
 /// A fault of the text as a whole.
 fn fault(kind: PlanFaultKind) -> Option<PlanFault> {
-    Some(PlanFault {
-        kind,
-        block: 0,
-        call: 0,
-    })
+    fault_at(kind, 0, 0)
+}
+
+/// A fault of this call of this block.
+fn fault_at(kind: PlanFaultKind, block: u32, call: u32) -> Option<PlanFault> {
+    Some(PlanFault { kind, block, call })
 }
 
 #[test]
@@ -269,25 +190,16 @@ fn a_task_that_no_call_submits_is_unknown(rt: HostRuntime) -> Result<(), Fail> {
     let calls = [made(3, CallLine::Cancel(0)), made(3, CallLine::Execute)];
     let text = printed(rt.alloc(), calls.as_slice())?;
     let told = read(rt.alloc(), text.as_str()).err();
-    let unknown = PlanFault {
-        kind: PlanFaultKind::UnknownName,
-        block: 1,
-        call: 1,
-    };
-    assert_eq!(rt; told, Some(unknown));
+    assert_eq!(rt; told, fault_at(PlanFaultKind::UnknownName, 1, 1));
     Ok(())
 }
 
 #[test]
 fn a_span_that_no_call_has_is_too_large(rt: HostRuntime) -> Result<(), Fail> {
-    let too_large = PlanFault {
-        kind: PlanFaultKind::TooLarge,
-        block: 1,
-        call: 1,
-    };
+    let too_large = fault_at(PlanFaultKind::TooLarge, 1, 1);
     for span in [4_611_686_018_427_387_905, u64::MAX] {
         let text = printed(rt.alloc(), [made(0, CallLine::Schedule(span))].as_slice())?;
-        assert_eq!(rt; read(rt.alloc(), text.as_str()).err(), Some(too_large));
+        assert_eq!(rt; read(rt.alloc(), text.as_str()).err(), too_large);
     }
     Ok(())
 }

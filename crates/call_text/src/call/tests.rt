@@ -3,9 +3,9 @@ use crate::call::{CallLine, read_call, split_call};
 use sched_time::Which;
 use std::process::Abort;
 
-/// Checks that none of the lines is a call.
-fn refuses(rt: &impl Abort, lines: &[&str]) {
-    for line in lines {
+/// Checks that none of the lines, between which `|` stands, is a call.
+fn refuses(rt: &impl Abort, lines: &str) {
+    for line in lines.split('|') {
         let read = read_call(line.as_bytes());
         assert!(rt; read.is_none(), "{line}: {read:?}");
     }
@@ -77,40 +77,11 @@ fn reads_each_other_call(rt: HostRuntime) {
 fn refuses_other_words(rt: HostRuntime) {
     refuses(
         &rt,
-        &[
-            "",
-            "\n",
-            "call",
-            "call\n",
-            "call \n",
-            "call  ask\n",
-            " call ask\n",
-            "call ask",
-            "call ask \n",
-            "call ask\r\n",
-            "call ask\n\n",
-            "call ask\ncall ask\n",
-            "call\task\n",
-            "Call ask\n",
-            "CALL ask\n",
-            "call Ask\n",
-            "call asks\n",
-            "call ask 1\n",
-            "callask\n",
-            "ask\n",
-            "clock 5\n",
-            "call clock 5\n",
-            "call execute 1\n",
-            "call execute \n",
-            "call Execute\n",
-            "call shut\n",
-            "call shutdown now\n",
-            "call shutdown_now \n",
-            "call shutdown_\n",
-            "call shutdownnow\n",
-            "call shutdown\r\n",
-            "call shutdown",
-        ],
+        "|\n|call|call\n|call \n|call  ask\n| call ask\n|call ask|call ask \n|call ask\r\n\
+         |call ask\n\n|call ask\ncall ask\n|call\task\n|Call ask\n|CALL ask\n|call Ask\n\
+         |call asks\n|call ask 1\n|callask\n|ask\n|clock 5\n|call clock 5\n|call execute 1\n\
+         |call execute \n|call Execute\n|call shut\n|call shutdown now\n|call shutdown_now \n\
+         |call shutdown_\n|call shutdownnow\n|call shutdown\r\n|call shutdown",
     );
 }
 
@@ -118,25 +89,12 @@ fn refuses_other_words(rt: HostRuntime) {
 fn refuses_other_spans(rt: HostRuntime) {
     refuses(
         &rt,
-        &[
-            "call schedule\n",
-            "call schedule \n",
-            "call schedule 05\n",
-            "call schedule 00\n",
-            "call schedule +5\n",
-            "call schedule -5\n",
-            "call schedule 5 \n",
-            "call schedule  5\n",
-            "call schedule 5",
-            "call schedule 5\r\n",
-            "call schedule 5 5\n",
-            "call schedule 5ns\n",
-            "call schedule 4611686018427387905\n",
-            "call schedule 9223372036854775808\n",
-            "call schedule 18446744073709551616\n",
-            "call schedule 46116860184273879040\n",
-            "call Schedule 5\n",
-        ],
+        "call schedule\n|call schedule \n|call schedule 05\n|call schedule 00\n|call schedule +5\n\
+         |call schedule -5\n|call schedule 5 \n|call schedule  5\n|call schedule 5\
+         |call schedule 5\r\n|call schedule 5 5\n|call schedule 5ns\n\
+         |call schedule 4611686018427387905\n|call schedule 9223372036854775808\n\
+         |call schedule 18446744073709551616\n|call schedule 46116860184273879040\n\
+         |call Schedule 5\n",
     );
 }
 
@@ -144,32 +102,12 @@ fn refuses_other_spans(rt: HostRuntime) {
 fn refuses_other_periods(rt: HostRuntime) {
     refuses(
         &rt,
-        &[
-            "call rate 5\n",
-            "call rate 5 \n",
-            "call rate 5 0\n",
-            "call rate 0 0\n",
-            "call rate 05 5\n",
-            "call rate 5 05\n",
-            "call rate 5  5\n",
-            "call rate 5 5 \n",
-            "call rate 5\t5\n",
-            "call rate 5 -5\n",
-            "call rate 5 5 5\n",
-            "call rate 5 4611686018427387905\n",
-            "call rate 4611686018427387905 5\n",
-            "call rate 5 5",
-            "call fixed 5\n",
-            "call fixed 5 0\n",
-            "call fixed 05 5\n",
-            "call fixed 5 05\n",
-            "call fixed 5 +5\n",
-            "call fixed 5  5\n",
-            "call fixed 5 5\r\n",
-            "call fixed 5 4611686018427387905\n",
-            "call fixed 4611686018427387905 5\n",
-            "call fixed  5 5\n",
-        ],
+        "call rate 5\n|call rate 5 \n|call rate 5 0\n|call rate 0 0\n|call rate 05 5\n\
+         |call rate 5 05\n|call rate 5  5\n|call rate 5 5 \n|call rate 5\t5\n|call rate 5 -5\n\
+         |call rate 5 5 5\n|call rate 5 4611686018427387905\n|call rate 4611686018427387905 5\n\
+         |call rate 5 5|call fixed 5\n|call fixed 5 0\n|call fixed 05 5\n|call fixed 5 05\n\
+         |call fixed 5 +5\n|call fixed 5  5\n|call fixed 5 5\r\n\
+         |call fixed 5 4611686018427387905\n|call fixed 4611686018427387905 5\n|call fixed  5 5\n",
     );
 }
 
@@ -177,30 +115,13 @@ fn refuses_other_periods(rt: HostRuntime) {
 fn refuses_other_cancels_and_policies(rt: HostRuntime) {
     refuses(
         &rt,
-        &[
-            "call cancel\n",
-            "call cancel \n",
-            "call cancel 07\n",
-            "call cancel -1\n",
-            "call cancel  1\n",
-            "call cancel 1 \n",
-            "call cancel 1",
-            "call cancel 4294967296\n",
-            "call cancel 18446744073709551616\n",
-            "call policy\n",
-            "call policy continue\n",
-            "call policy continue \n",
-            "call policy keep true\n",
-            "call policy continues true\n",
-            "call policy continue yes\n",
-            "call policy continue True\n",
-            "call policy Continue true\n",
-            "call policy continue  true\n",
-            "call policy continue true \n",
-            "call policy continue true",
-            "call policy true continue\n",
-            "call policy remove 1\n",
-        ],
+        "call cancel\n|call cancel \n|call cancel 07\n|call cancel -1\n|call cancel  1\n\
+         |call cancel 1 \n|call cancel 1|call cancel 4294967296\n\
+         |call cancel 18446744073709551616\n|call policy\n|call policy continue\n\
+         |call policy continue \n|call policy keep true\n|call policy continues true\n\
+         |call policy continue yes\n|call policy continue True\n|call policy Continue true\n\
+         |call policy continue  true\n|call policy continue true \n|call policy continue true\
+         |call policy true continue\n|call policy remove 1\n",
     );
 }
 
@@ -216,13 +137,10 @@ fn gives_what_follows(rt: HostRuntime) {
         ("call rate 1 2\n\n", CallLine::Rate(1, 2), "\n"),
         ("call cancel 7\n 8\n", CallLine::Cancel(7), " 8\n"),
     ] {
-        let Some((read, rest)) = split_call(bytes.as_bytes()) else {
-            assert!(rt; false, "{bytes}");
-            return;
-        };
+        let found = split_call(bytes.as_bytes());
         assert!(rt;
-            read == call && rest == left.as_bytes(),
-            "{bytes}: {read:?}"
+            found == Some((call, left.as_bytes())),
+            "{bytes}: {found:?}"
         );
     }
 }

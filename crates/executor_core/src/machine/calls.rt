@@ -7,8 +7,7 @@ ghost use Rattle.executor_model.specs.Answers.{kind_of};
 ghost use Rattle.executor_model.specs.Tasks.{uncancelled_in};
 
 use super::Core;
-use delay_queue::Entry;
-use executor_model::{Answer, Kind, Line, Message, Refusal};
+use executor_model::{Answer, CancelEffect, Kind, Line, Message, Refusal};
 use queue_code::CodeCall;
 use sched_time::Timing;
 use std::alloc::Allocator;
@@ -60,7 +59,7 @@ impl<A: Allocator> Core<A> {
             CodeCall::Cancel { task } => self.cancel_by_plan(task),
             CodeCall::Ask => self.ask(),
         };
-        out.push_reserved(Line::new(self.moment, Message::Answer(answer)));
+        out.push_reserved(Line::new(self.table.now(), Message::Answer(answer)));
     }
 
     /// The next call submits a task: it is refused where the executor is shut.
@@ -71,17 +70,18 @@ impl<A: Allocator> Core<A> {
         ensures made { self.new.made ≡ self.old.made + 1 }
         ensures uncancelled { uncancelled_in self.new.tasks ≤ uncancelled_in self.old.tasks }
     {
-        self.moment = self.calls.pass();
-        if self.shut {
+        self.calls.pass();
+        if self.table.is_shut() {
+            self.table.refuse(moment);
             return Answer::Refuse {
                 task,
                 refusal: Refusal::Rejected,
             };
         }
         let kind = kind_of(&timing);
-        let due = moment + delay;
-        self.tasks.submit(task as usize, timing, due);
-        self.queue.insert(Entry { due, task });
+        let due = self
+            .table
+            .admit(task, u64::from(task), moment, timing, delay);
         Answer::Submit { task, kind, due }
     }
 
@@ -93,7 +93,8 @@ impl<A: Allocator> Core<A> {
         ensures made { self.new.made ≡ self.old.made + 1 }
         ensures uncancelled { uncancelled_in self.new.tasks ≤ uncancelled_in self.old.tasks }
     {
-        self.moment = self.calls.pass();
+        let at = self.calls.pass();
+        self.table.pass(at);
         Answer::Refuse {
             task,
             refusal: Refusal::Illegal,
@@ -108,9 +109,13 @@ impl<A: Allocator> Core<A> {
         ensures made { self.new.made ≡ self.old.made + 1 }
         ensures uncancelled { uncancelled_in self.new.tasks ≤ uncancelled_in self.old.tasks }
     {
-        let before = self.moment;
-        let effect = self.cancel_task(task);
-        self.moment = before.max(self.calls.pass());
+        let at = self.calls.pass();
+        if self.table.seat(task).is_none() {
+            self.table.pass(at);
+            let effect = CancelEffect::Absent;
+            return Answer::Cancel { task, effect };
+        }
+        let effect = self.table.cancel_by_call(at, task);
         Answer::Cancel { task, effect }
     }
 
@@ -121,14 +126,13 @@ impl<A: Allocator> Core<A> {
         ensures made { self.new.made ≡ self.old.made + 1 }
         ensures uncancelled { uncancelled_in self.new.tasks ≤ uncancelled_in self.old.tasks }
     {
-        self.moment = self.calls.pass();
-        let queue = self.queue.len() + self.kept.len();
-        let running = self.tasks.running();
+        let at = self.calls.pass();
+        let asked = self.table.ask(at);
         Answer::Ask {
-            queue: queue as u32,
-            running: running as u32,
-            shutdown: self.shut,
-            terminated: self.shut && queue == 0 && running == 0,
+            queue: asked.queue as u32,
+            running: asked.running as u32,
+            shutdown: asked.shutdown,
+            terminated: asked.terminated,
         }
     }
 }

@@ -1,20 +1,15 @@
 //! Clocks: whether one is accepted, and what it does.
-ghost use Rattle.std.specs.Prelude.{◌≡◌, ◌+◌, ◌≤◌, ◌↔◌, [], ◌∷◌, true, length, None, IfSome, vec_len, vec_capacity};
+ghost use Rattle.std.specs.Prelude.{◌≡◌, ◌+◌, ◌≤◌, [], ◌∷◌, true, length, vec_len, vec_capacity};
 ghost use Rattle.executor_model.specs.declared.types.Happening.TheVariants as happening;
-ghost use Rattle.executor_model.specs.declared.types.Answer.TheVariants as answer;
-ghost use Rattle.executor_model.specs.Answers.{is_accepted, bare};
-ghost use Rattle.sched_time.specs.Times.{longest};
-ghost use Rattle.queue_code.specs.Calls.{IsOrderly};
+ghost use Rattle.executor_model.specs.Answers.{is_accepted};
 ghost use Rattle.executor_model.specs.Histories.{AreMade};
-ghost use Rattle.executor_model.specs.State.{reply_of};
 
 use super::Core;
-use executor_model::{Answer, EventError, Line, Message};
-use sched_time::LONGEST;
+use executor_model::{Answer, Line, Message};
 use std::alloc::Allocator;
 
 impl<A: Allocator> Core<A> {
-    ghost use Rattle.executor_core.specs.CoreView.{Steps, ContinuesAny, Leaves, room_of, workers_of, state_of};
+    ghost use Rattle.executor_core.specs.CoreView.{Steps, ContinuesAny, Leaves, room_of};
     ghost use Rattle.executor_core.specs.own.OwnSteps.{Takes};
 
     /// The clock shows a moment, in nanoseconds: it is moved there, unless it would go back or pass 2^62. Its line is
@@ -34,25 +29,7 @@ impl<A: Allocator> Core<A> {
         ensures capacity { vec_capacity out.new ≡ vec_capacity out.old }
     {
         let answer = self.answer_clock(moment);
-        out.push_reserved(Line::new(self.moment, Message::Answer(answer)));
-    }
-
-    /// Why a clock that shows this moment is refused, and `None` where it is accepted.
-    fn refuses_clock(&self, moment: u64) -> Option<EventError>
-        ensures accepted { (result ≡ None) ↔ (is_accepted self.now.moment moment ≡ true) }
-        ensures orderly { IsOrderly self.now.calls }
-        ensures within { result ≡ None → (self.now.moment ≤ moment) × (moment ≤ longest) }
-        ensures error { IfSome result
-            (λ error. reply_of self.now.calls (workers_of self.now) (state_of self.now)
-            (happening.Clock moment) ≡ bare (answer.Error error)) }
-    {
-        if moment < self.moment {
-            return Some(EventError::Backward);
-        }
-        if moment > LONGEST {
-            return Some(EventError::TooFar);
-        }
-        None
+        out.push_reserved(Line::new(self.table.now(), Message::Answer(answer)));
     }
 
     /// The clock shows a moment.
@@ -62,10 +39,9 @@ impl<A: Allocator> Core<A> {
         ensures step { Takes self.old self.new (happening.Clock moment) result }
         ensures size { length self.new.tasks ≡ length self.old.tasks }
     {
-        if let Some(error) = self.refuses_clock(moment) {
+        if let Err(error) = self.table.clock(moment) {
             return Answer::Error(error);
         }
-        self.moment = moment;
         Answer::Clock
     }
 }

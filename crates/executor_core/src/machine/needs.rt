@@ -1,8 +1,7 @@
 //! What a step would move of the words, before it is taken, and whether a task is due.
-ghost use Rattle.std.specs.Prelude.{◌≡◌, ℕ, Some, slice_get, ◌<◌, ◌≤◌, ◌↔◌, IsTrue, IfSome, IfNone, length, None, slice_index_or};
+ghost use Rattle.std.specs.Prelude.{◌≡◌, ℕ, Some, slice_get, ◌<◌, ◌≤◌, ◌↔◌, IsTrue, IfSome, length, None, slice_index_or};
 ghost use Rattle.executor_model.specs.declared.types.Happening.TheVariants as happening;
 ghost use Rattle.sched_time.specs.Times.{longest};
-ghost use Rattle.delay_queue.specs.Queues.{IsLeast, NoneIsDue};
 ghost use Rattle.executor_model.specs.Flows.{ReachesNext, reached};
 ghost use Rattle.executor_model.specs.Histories.{AreMade, is_end};
 ghost use Rattle.executor_model.specs.State.{reply_of, vacant, view_of_state};
@@ -10,10 +9,7 @@ ghost use Rattle.executor_model.specs.Needs.{need_of, need_of_finish, IsRipe};
 ghost use Rattle.executor_core.specs.own.Ends.{need_of_end};
 
 use super::Core;
-use super::cancels::effect_on;
-use super::sweeps::setting_sweeps;
 use crate::foreseen::RunEnd;
-use delay_queue::{DelayQueue, Entry};
 use executor_model::{CancelEffect, Need, Outcome};
 use queue_code::CodeCall;
 use sched_time::Ending;
@@ -49,7 +45,7 @@ impl<A: Allocator> Core<A> {
     {
         match call {
             CodeCall::Submit { task, .. } => {
-                if self.shut {
+                if self.table.is_shut() {
                     Need::Nothing
                 } else {
                     Need::Submit(task)
@@ -57,14 +53,14 @@ impl<A: Allocator> Core<A> {
             }
             CodeCall::Cancel { task } => self.cancel_need(task),
             CodeCall::SetPolicy { which, value } => {
-                if setting_sweeps(self.shut, which, value) {
+                if self.table.setting_sweeps(which, value) {
                     Need::Sweep
                 } else {
                     Need::Nothing
                 }
             }
             CodeCall::Shutdown => {
-                if self.shut {
+                if self.table.is_shut() {
                     Need::Nothing
                 } else {
                     Need::Sweep
@@ -85,14 +81,17 @@ impl<A: Allocator> Core<A> {
         let Some((at, call)) = self.next_call() else {
             return false;
         };
-        let now = self.moment.max(at);
-        let task = task as usize;
+        let now = self.table.now().max(at);
+        let stopped = self.table.is_stopped();
+        let policies = self.table.policies();
         match call {
-            CodeCall::SetPolicy { which, value } => setting_sweeps(self.shut, which, value)
-                && self.ends_under(task, self.stopped, self.policies.with(which, value), now),
-            CodeCall::Shutdown => !self.shut
-                && self.ends_under(task, self.stopped, self.policies, now),
-            CodeCall::ShutdownNow => self.ends_under(task, true, self.policies, now),
+            CodeCall::SetPolicy { which, value } => self.table.setting_sweeps(which, value)
+                && self
+                    .table
+                    .ends_under(task, stopped, policies.with(which, value), now),
+            CodeCall::Shutdown => !self.table.is_shut()
+                && self.table.ends_under(task, stopped, policies, now),
+            CodeCall::ShutdownNow => self.table.ends_under(task, true, policies, now),
             CodeCall::Submit { .. }
             | CodeCall::Illegal { .. }
             | CodeCall::Cancel { .. }
@@ -106,15 +105,11 @@ impl<A: Allocator> Core<A> {
             ≡ need_of self.now.calls (workers_of self.now) (state_of self.now)
             (happening.Start worker) }
     {
-        let place = worker as usize;
-        if place >= self.work.len() {
+        if self.table.start_error(worker).is_some() {
             return Need::Nothing;
         }
-        if self.work[place].is_some() {
-            return Need::Nothing;
-        }
-        match first_due(&self.queue, self.moment) {
-            Some(entry) => Need::Start(entry.task),
+        match self.table.first() {
+            Some(first) => Need::Start(first.slot),
             None => Need::Nothing,
         }
     }
@@ -134,13 +129,9 @@ impl<A: Allocator> Core<A> {
             ≡ need_of self.now.calls (workers_of self.now) (state_of self.now)
             (happening.Cancel task) }
     {
-        if !self.tasks.has(task) {
-            return Need::Nothing;
-        }
-        match effect_on(self.tasks.get(task as usize)) {
+        match self.table.effect(task) {
             CancelEffect::Yes => Need::Cancel(task),
-            CancelEffect::No => Need::Nothing,
-            CancelEffect::Absent => Need::Nothing,
+            CancelEffect::No | CancelEffect::Absent => Need::Nothing,
         }
     }
 
@@ -149,7 +140,10 @@ impl<A: Allocator> Core<A> {
     pub fn is_cancelled(&self, task: u32) -> bool
         ensures { result ≡ (slice_index_or self.now.tasks task vacant).cancelled }
     {
-        self.tasks.has(task) && self.tasks.get(task as usize).cancelled
+        match self.table.seat(task) {
+            Some(seat) => seat.cancelled,
+            None => false,
+        }
     }
 
     /// Whether the due moment of some task that waits or is kept is reached.
@@ -157,22 +151,8 @@ impl<A: Allocator> Core<A> {
         ensures { IsTrue result
             ↔ IsRipe self.now.calls (view_of_state self.now.calls (state_of self.now)) }
     {
-        first_due(&self.queue, self.moment).is_some()
-            || first_due(&self.kept, self.moment).is_some()
+        self.table.is_ripe()
     }
-}
-
-/// The least entry of a queue, where it is due at the moment `now`.
-fn first_due<A: Allocator>(queue: &DelayQueue<A>, now: u64) -> Option<Entry>
-    ensures least { IfSome result (λ e. IsLeast queue.now.entries e.due e.task) }
-    ensures due { IfSome result (λ e. e.due ≤ now) }
-    ensures none { IfNone result (NoneIsDue queue.now.entries now) }
-{
-    let entry = queue.peek()?;
-    if now < entry.due {
-        return None;
-    }
-    Some(entry)
 }
 
 /// The word moves of the end of a run, where one ends.

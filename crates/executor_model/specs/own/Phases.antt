@@ -1,11 +1,9 @@
 -- What the phase of a task says of it, and where the task stands in a queue.
 -- All of it is this project's rule.
-use Rattle.std.specs.Prelude.{ℕ, if◌then◌else◌, Option, Some, None, ◌&&◌, ◌||◌, Bool, true, false, not, ◌∷◌}
+use Rattle.std.specs.Prelude.{ℕ, if◌then◌else◌, Option, Some, None, ◌&&◌, ◌||◌, Bool, true, false, not}
 use Rattle.executor_model.specs.declared.task.Stage.{Stage}
 use Rattle.executor_model.specs.declared.task.Stage.TheVariants as ph
 use Rattle.executor_model.specs.declared.task.Task.{Task}
-use Rattle.sched_time.specs.declared.timing.Timing.{Timing}
-use Rattle.sched_time.specs.declared.timing.Timing.TheVariants as t
 
 -- the due moment of a task that waits for a run
 abbrev pub queued_phase : Stage → ℕ → Option ℕ
@@ -30,20 +28,6 @@ abbrev pub is_waiting_phase : Stage → Bool
 is_waiting_phase ph.Waiting = true
 is_waiting_phase _ = false
 
--- a task of this timing has more runs than one
-abbrev pub is_periodic : Timing → Bool
-is_periodic t.Once = false
-is_periodic (t.Rate period) = true
-is_periodic (t.Fixed delay) = true
-
--- a periodic task waits for a run
-abbrev pub waits_again : Task → Bool
-waits_again task = is_waiting_phase task.phase && (not task.cancelled && is_periodic task.timing)
-
 -- a task waits for a run
 abbrev pub waits_with : Task → Bool
 waits_with task = is_waiting_phase task.phase && not task.cancelled
-
--- a task once it is cancelled: one that waited is kept, where a cancelled task does not leave the queue
-abbrev pub cancelled_task : Bool → Task → Task
-cancelled_task removes task = record task { cancelled = true; kept = task.kept || (is_waiting_phase task.phase && not removes) }

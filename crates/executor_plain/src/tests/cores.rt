@@ -10,6 +10,7 @@ mod sweeps;
 mod usage;
 mod words;
 
+use super::text_of_lines;
 use executor_core::{Core, CoreError};
 use executor_model::{Event, Happening, Line};
 use queue_code::{Code, Instr};
@@ -17,6 +18,7 @@ use sched_time::{Ending, Span, Timing, Unit, span};
 use std::alloc::{AllocGlobal, Allocator, Global};
 use std::process::Abort;
 use std::test::Fail;
+use task_word::{Phase, Word};
 
 /// A span of `value` nanoseconds.
 fn nanos(value: i64) -> Result<Span, Fail> {
@@ -117,11 +119,29 @@ fn lines_after(
     lines_of(rt, &mut core, events)
 }
 
-/// What these lines say, each with its moment.
-fn text_of_lines(alloc: Global, lines: &[Line]) -> Result<String, Fail> {
+/// The letter of a phase.
+fn letter_of(phase: Phase) -> char {
+    match phase {
+        Phase::Vacant => 'v',
+        Phase::New => 'n',
+        Phase::Running => 'r',
+        Phase::Done => 'd',
+        Phase::Failed => 'f',
+    }
+}
+
+/// Adds a word in short: its phase and its run, and a mark where it is cancelled.
+fn add_short(text: &mut String, word: Word) -> Result<(), Fail> {
+    let mark = if word.is_cancelled() { "!" } else { "" };
+    write!(text, " {}{}{mark}", letter_of(word.phase()), word.run())?;
+    Ok(())
+}
+
+/// The words in short: of each its phase and its run, and a mark where it is cancelled.
+fn short_words(alloc: Global, words: &[Word]) -> Result<String, Fail> {
     let mut text = String::new(alloc);
-    for line in lines {
-        writeln!(text, "{} {:?}", line.moment(), line.message())?;
+    for word in words {
+        add_short(&mut text, *word)?;
     }
     Ok(text)
 }
@@ -140,30 +160,12 @@ fn each_error_says_what_is_wrong(rt: HostRuntime) -> Result<(), Fail> {
     Ok(())
 }
 
-/// The events of the code at the head of the core's documentation.
-fn give_example(core: &mut Core<Global>, lines: &mut Vec<Line>) -> Result<(), Fail> {
-    for event in [
-        Event::Clock(5),
-        Event::Start(0),
-        Event::Finish(0, Ending::Value(7)),
-    ] {
-        core.event(event, lines)?;
-    }
-    Ok(())
-}
-
-/// The lines of code at the head of the core's documentation.
-fn example(alloc: Global) -> Result<Vec<Line>, Fail> {
-    let instrs = vec![in alloc; Instr::Submit(0, Timing::Once, 5), Instr::Halt]?;
-    let mut core = Core::new(alloc, Code::check(alloc, instrs)?, 1, 100)?;
-    let mut lines = Vec::new(alloc);
-    give_example(&mut core, &mut lines)?;
-    Ok(lines)
-}
-
+/// The calls and events of the example at the head of `executor_core`'s documentation.
 #[test]
 fn a_task_runs_once_its_delay_has_passed(rt: HostRuntime) -> Result<(), Fail> {
-    let lines = example(rt.alloc())?;
+    let end = Event::Finish(0, Ending::Value(7));
+    let mut core = core_of(rt.alloc(), &[submission(0, 5)], 1, 100)?;
+    let lines = lines_of(&rt, &mut core, &[Event::Clock(5), Event::Start(0), end])?;
     assert_eq!(rt;
         text_of_lines(rt.alloc(), &lines)?.as_str(),
         "0 Answer(Submit { task: 0, kind: Schedule, due: 5 })\n\

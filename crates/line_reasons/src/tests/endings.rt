@@ -22,44 +22,27 @@ fn text_of_length(alloc: Global, length: usize) -> Result<String, Fail> {
     Ok(text)
 }
 
-#[test]
-fn empty_lines(rt: HostRuntime) -> Result<(), Fail> {
-    let alloc = rt.alloc();
-    for text in [&b"\n"[..], b"\n\n", b"\nclock 5\n"] {
-        assert_eq!(rt; fault(alloc, text)?, EventFault::Line(LineFault::Empty));
-    }
-    Ok(())
-}
+/// Texts by the fault of their first lines, with `|` between them.
+const TEXTS: [(&str, LineFault<'static>); 4] = [
+    ("\n|\n\n|\nclock 5\n", LineFault::Empty),
+    (
+        "clock 5\r\n|\r\n|clock 5\r|clok\r 05  \n|clock 5\rclock 6\r",
+        LineFault::CarriageReturn,
+    ),
+    (
+        "clock 5|c|clok  05| |clock 5\nstart 0",
+        LineFault::NoNewline,
+    ),
+    (" clock 5\n|  clock 5\n| \n|   \n", LineFault::SpaceInFront),
+];
 
 #[test]
-fn carriage_returns(rt: HostRuntime) -> Result<(), Fail> {
-    let alloc = rt.alloc();
-    for text in [
-        &b"clock 5\r\n"[..],
-        b"\r\n",
-        b"clock 5\r",
-        b"clok\r 05  \n",
-        b"clock 5\rclock 6\r",
-    ] {
-        assert_eq!(rt;
-            fault(alloc, text)?,
-            EventFault::Line(LineFault::CarriageReturn)
-        );
-    }
-    Ok(())
-}
-
-#[test]
-fn last_lines_without_a_newline(rt: HostRuntime) -> Result<(), Fail> {
-    let alloc = rt.alloc();
-    for text in [
-        &b"clock 5"[..],
-        b"c",
-        b"clok  05",
-        b" ",
-        b"clock 5\nstart 0",
-    ] {
-        assert_eq!(rt; fault(alloc, text)?, EventFault::Line(LineFault::NoNewline));
+fn ends_and_fronts_of_lines(rt: HostRuntime) -> Result<(), Fail> {
+    for (texts, wanted) in TEXTS {
+        for text in texts.split('|') {
+            let fault = fault(rt.alloc(), text.as_bytes())?;
+            assert_eq!(rt; fault, EventFault::Line(wanted), "{text}");
+        }
     }
     Ok(())
 }
@@ -91,26 +74,19 @@ fn long_lines(rt: HostRuntime) -> Result<(), Fail> {
     Ok(())
 }
 
+const SPACES: &str = "\
+clock\t5 | tab; one space stands between two words
+clock 5\t | tab; one space stands between two words
+\tclock  5 | tab; one space stands between two words
+clock  5 | two spaces; one space stands between two words
+finish 0  ok 7 | two spaces; one space stands between two words
+clok  05 | two spaces; one space stands between two words
+clock 5  | space at the end; a line ends with a word
+clock  | space at the end; a line ends with a word
+clock 05   | space at the end; a line ends with a word
+";
+
 #[test]
 fn spaces(rt: HostRuntime) -> Result<(), Fail> {
-    let alloc = rt.alloc();
-    tell(
-        &rt,
-        "clock\t5 | tab; one space stands between two words\n\
-         clock 5\t | tab; one space stands between two words\n\
-         \tclock  5 | tab; one space stands between two words\n\
-         clock  5 | two spaces; one space stands between two words\n\
-         finish 0  ok 7 | two spaces; one space stands between two words\n\
-         clok  05 | two spaces; one space stands between two words\n\
-         clock 5  | space at the end; a line ends with a word\n\
-         clock  | space at the end; a line ends with a word\n\
-         clock 05   | space at the end; a line ends with a word",
-    )?;
-    for text in [&b" clock 5\n"[..], b"  clock 5\n", b" \n", b"   \n"] {
-        assert_eq!(rt;
-            fault(alloc, text)?,
-            EventFault::Line(LineFault::SpaceInFront)
-        );
-    }
-    Ok(())
+    tell(&rt, SPACES)
 }

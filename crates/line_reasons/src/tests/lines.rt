@@ -18,36 +18,34 @@ fn tell(rt: &(impl AllocGlobal + Abort), table: &str) -> Result<(), Fail> {
     Ok(())
 }
 
-#[test]
-fn spaces_and_ends(rt: HostRuntime) -> Result<(), Fail> {
-    tell(
-        &rt,
-        " | empty; a line has a word at least\n\
-         5\tclock | tab; one space stands between two words\n\
-         5  clock | two spaces; one space stands between two words\n\
-         5 clock  | space at the end; a line ends with a word\n\
-         5 clok | no such line",
-    )?;
-    tell(&rt, " 5 clock | space in front; a line begins with a word")?;
-    tell(&rt, "  | space in front; a line begins with a word")?;
-    tell(&rt, "  5 clock\t | tab; one space stands between two words")
-}
+const SPACES_AND_ENDS: &str = "\
+5 clok | no such line
+ | empty; a line has a word at least
+5\tclock | tab; one space stands between two words
+5  clock | two spaces; one space stands between two words
+5 clock  | space at the end; a line ends with a word
+ 5 clock | space in front; a line begins with a word
+  | space in front; a line begins with a word
+  5 clock\t | tab; one space stands between two words
+";
+
+const NUMBERS: &str = "\
++5 clock | sign in \"+5\"; a number has none
+5 end -3 | sign in \"-3\"; a number has none
+05 clock | leading zero in \"05\"; a number has none
+5 start 00 idle | leading zero in \"00\"; a number has none
+5ns clock | unit in \"5ns\"; a number has none
+5 ms clock | unit in \"ms\"; a number has none
+18446744073709551616 clock | \"18446744073709551616\" is too large; a number is at most 18446744073709551615
+18446744073709551615 clok | no such line
+5x clock | no such line
+0 0x10 | no such line
+";
 
 #[test]
-fn numbers(rt: HostRuntime) -> Result<(), Fail> {
-    tell(
-        &rt,
-        "+5 clock | sign in \"+5\"; a number has none\n\
-         5 end -3 | sign in \"-3\"; a number has none\n\
-         05 clock | leading zero in \"05\"; a number has none\n\
-         5 start 00 idle | leading zero in \"00\"; a number has none\n\
-         5ns clock | unit in \"5ns\"; a number has none\n\
-         5 ms clock | unit in \"ms\"; a number has none\n\
-         18446744073709551616 clock | \"18446744073709551616\" is too large; a number is at most 18446744073709551615\n\
-         18446744073709551615 clok | no such line\n\
-         5x clock | no such line\n\
-         0 0x10 | no such line",
-    )
+fn spaces_ends_and_numbers(rt: HostRuntime) -> Result<(), Fail> {
+    tell(&rt, SPACES_AND_ENDS)?;
+    tell(&rt, NUMBERS)
 }
 
 #[test]
@@ -84,8 +82,9 @@ fn words_that_are_numbers(rt: HostRuntime) {
 
 #[test]
 fn bytes_in_quotes(rt: HostRuntime) -> Result<(), Fail> {
-    let alloc = rt.alloc();
-    let long = b"a234567890b234567890c234567890d234567890";
+    let longest = b"a234567890b234567890c234567890d234567890";
+    let longer = b"a234567890b234567890c234567890d234567890\xFF";
+    let wide = b"\xC3\xA4234567890b234567890c234567890d234567\xFF\xFF\xFF!";
     for (bytes, wanted) in [
         (&b""[..], "\"\""),
         (b"clock 5\r", "\"clock 5\\r\""),
@@ -96,29 +95,21 @@ fn bytes_in_quotes(rt: HostRuntime) -> Result<(), Fail> {
             b"\xC3\xA4 \xC2\xA0\xEF\xBB\xBF",
             "\"\u{E4} \\u00A0\\uFEFF\"",
         ),
-        (long, "\"a234567890b234567890c234567890d234567890\""),
+        (longest, "\"a234567890b234567890c234567890d234567890\""),
+        (longer, "\"a234567890b234567890c234567890d234567890\"..."),
+        (
+            wide,
+            "\"\u{E4}234567890b234567890c234567890d234567\\xFF\\xFF\\xFF\"...",
+        ),
     ] {
-        assert_eq!(rt; Quoted(bytes).to_string(alloc)?.as_str(), wanted);
+        assert_eq!(rt; Quoted(bytes).to_string(rt.alloc())?.as_str(), wanted);
     }
     Ok(())
 }
 
 #[test]
-fn long_bytes_are_cut(rt: HostRuntime) -> Result<(), Fail> {
-    let alloc = rt.alloc();
-    let long = b"\xC3\xA4234567890b234567890c234567890d234567\xFF\xFF\xFF!";
-    assert_eq!(rt;
-        Quoted(long).to_string(alloc)?.as_str(),
-        "\"\u{E4}234567890b234567890c234567890d234567\\xFF\\xFF\\xFF\"..."
-    );
-    let long = b"a234567890b234567890c234567890d234567890\xFF";
-    assert_eq!(rt;
-        Quoted(long).to_string(alloc)?.as_str(),
-        "\"a234567890b234567890c234567890d234567890\"..."
-    );
-    assert_eq!(rt;
-        FileName("a\nb \"c\".txt").to_string(alloc)?.as_str(),
-        "a\\nb \"c\".txt"
-    );
+fn names_of_files(rt: HostRuntime) -> Result<(), Fail> {
+    let name = FileName("a\nb \"c\".txt").to_string(rt.alloc())?;
+    assert_eq!(rt; name.as_str(), "a\\nb \"c\".txt");
     Ok(())
 }

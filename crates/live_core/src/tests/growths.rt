@@ -1,8 +1,8 @@
 //! Want of memory: rows are played with each growth refused in turn, and all before and behind it granted.
 
-use super::steps::{DONE, NONE, Step, Told, do_step, look};
-use super::{Row, play_over};
-use crate::{CallError, MakeError, ScheduledExecutor};
+use super::steps::{NO_MEMORY, Step, Told, do_step, look};
+use super::{Named, play_over};
+use crate::{MakeError, ScheduledExecutor};
 use executor_model::{Answer, Line};
 use refusing_allocator::Refusing;
 use std::alloc::{AllocGlobal, Allocator, Global};
@@ -12,13 +12,14 @@ use std::test::Fail;
 /// Plays rows with the first growth refused, then with the second and so on, until no growth of that number is asked for. Each time
 /// what is refused tells want of memory and changes nothing that is shown, and is done again; all else is told as with ample
 /// memory, and all memory is given back.
-pub fn refuse_each(rt: &(impl AllocGlobal + Abort), rows: &[Row]) -> Result<(), Fail> {
+pub fn refuse_each(rt: &(impl AllocGlobal + Abort), named: Named<'_>) -> Result<(), Fail> {
+    let (name, _) = named;
     for number in 1..1_000u64 {
         let heap = Refusing::new(rt.alloc());
         heap.refuse(number);
-        let refused = play_refused(rt, &heap, rows)?;
-        assert_eq!(rt; heap.used(), 0, "{number}");
-        assert_eq!(rt; heap.has_refused(), refused, "{number}");
+        let refused = play_refused(rt, &heap, named)?;
+        assert_eq!(rt; heap.used(), 0, "{name}, {number}");
+        assert_eq!(rt; heap.has_refused(), refused, "{name}, {number}");
         if !refused {
             return Ok(());
         }
@@ -28,21 +29,18 @@ pub fn refuse_each(rt: &(impl AllocGlobal + Abort), rows: &[Row]) -> Result<(), 
 
 /// Plays rows with ample memory, but that of each step the first growth is refused: that of one that is no submission, and makes no
 /// room, is never asked for.
-pub fn refuse_firsts(rt: &(impl AllocGlobal + Abort), rows: &[Row]) -> Result<(), Fail> {
+pub fn refuse_firsts(rt: &(impl AllocGlobal + Abort), (name, rows): Named<'_>) -> Result<(), Fail> {
     let heap = Refusing::new(rt.alloc());
     let mut executor = ScheduledExecutor::new(&heap, 2)?;
     for (place, (step, wanted)) in rows.iter().enumerate() {
         heap.refuse(1);
         let mut told = do_step(&mut executor, *step);
-        if may_want(*step) {
-            assert_eq!(rt; is_want(told), heap.has_refused(), "row {place}");
-        } else {
-            assert!(rt; !heap.has_refused(), "row {place}");
-        }
-        if is_want(told) {
+        let wants = may_want(*step) && told == NO_MEMORY;
+        assert_eq!(rt; wants, heap.has_refused(), "{name}, row {place}");
+        if wants {
             told = do_step(&mut executor, *step);
         }
-        assert_eq!(rt; told, *wanted, "row {place}");
+        assert_eq!(rt; told, *wanted, "{name}, row {place}");
     }
     Ok(())
 }
@@ -51,14 +49,14 @@ pub fn refuse_firsts(rt: &(impl AllocGlobal + Abort), rows: &[Row]) -> Result<()
 fn play_refused(
     rt: &(impl AllocGlobal + Abort),
     heap: &Refusing<Global>,
-    rows: &[Row],
+    named: Named<'_>,
 ) -> Result<bool, Fail> {
     match ScheduledExecutor::new(heap, 2) {
-        Ok(mut executor) => play_rows(rt, &mut executor, rows),
+        Ok(mut executor) => play_rows(rt, &mut executor, named),
         Err(error) => {
             assert_eq!(rt; error, MakeError::Memory);
             let mut executor = ScheduledExecutor::new(heap, 2)?;
-            play_over(rt, &mut executor, rows);
+            play_over(rt, &mut executor, named);
             Ok(true)
         }
     }
@@ -68,19 +66,19 @@ fn play_refused(
 fn play_rows<A: Allocator>(
     rt: &(impl AllocGlobal + Abort),
     executor: &mut ScheduledExecutor<A>,
-    rows: &[Row],
+    (name, rows): Named<'_>,
 ) -> Result<bool, Fail> {
     let mut refused = false;
     for (place, (step, wanted)) in rows.iter().enumerate() {
         let before = show(rt, executor)?;
         let mut told = do_step(executor, *step);
-        if is_want(told) {
-            assert!(rt; may_want(*step), "row {place}");
-            assert!(rt; show(rt, executor)? == before, "row {place}");
+        if told == NO_MEMORY {
+            assert!(rt; may_want(*step), "{name}, row {place}");
+            assert!(rt; show(rt, executor)? == before, "{name}, row {place}");
             told = do_step(executor, *step);
             refused = true;
         }
-        assert_eq!(rt; told, *wanted, "row {place}");
+        assert_eq!(rt; told, *wanted, "{name}, row {place}");
     }
     Ok(refused)
 }
@@ -107,14 +105,6 @@ fn show<A: Allocator>(
         look(executor, Step::Numbers),
     ];
     Ok(Shown { looks, lines })
-}
-
-/// Whether want of memory is told.
-fn is_want(told: Told) -> bool {
-    matches!(
-        told,
-        Told::Submitted(Err(CallError::Memory)) | Told::Made(Err(CallError::Memory))
-    )
 }
 
 /// Whether a step may want memory.

@@ -1,6 +1,6 @@
 //! The lines of what happened last.
 
-use super::steps::{DONE, Step, Told, accepted};
+use super::steps::{Step, Told, do_step};
 use super::{Row, play_over};
 use crate::{LinesError, ScheduledExecutor};
 use executor_model::{Answer, Line, Message};
@@ -30,28 +30,25 @@ fn compare(rt: &impl Abort, lines: &[Line], wanted: &[Said]) {
 }
 
 /// Three tasks, and a shutdown that ends the first and the last.
-fn shutting() -> [Row; 5] {
-    [
-        (Step::AtRate(0, 1, 1), accepted(0, 3, 1)),
-        (Step::Schedule(0, 1), accepted(1, 2, 1)),
-        (Step::WithDelay(0, 1, 1), accepted(2, 1, 1)),
-        (Step::ShutDown(3), Told::First(Ok(true))),
-        (Step::Look, Told::Looks(3, 1)),
-    ]
-}
+const SHUTTING: &[Row] = &[
+    (Step::AtRate(0, 1, 1), Told::Accepted(0, 3, 1)),
+    (Step::Schedule(0, 1), Told::Accepted(1, 2, 1)),
+    (Step::WithDelay(0, 1, 1), Told::Accepted(2, 1, 1)),
+    (Step::ShutDown(3), Told::First(true)),
+    (Step::Look, Told::Looks(3, 1)),
+];
 
 #[test]
 fn the_lines_of_a_shutdown_name_what_it_ends(rt: HostRuntime) -> Result<(), Fail> {
     let mut executor = ScheduledExecutor::new(rt.alloc(), 1)?;
     let mut lines = Vec::new(rt.alloc());
-    play_over(&rt, &mut executor, &shutting());
+    play_over(&rt, &mut executor, ("shutting", SHUTTING));
     add(&executor, Answer::Shutdown, &mut lines)?;
-    play_over(&rt, &mut executor, &[(Step::ShutDownNow(4), DONE)]);
+    assert_eq!(rt; do_step(&mut executor, Step::ShutDownNow(4)), Told::Made);
     add(&executor, Answer::ShutdownNow, &mut lines)?;
-    play_over(
-        &rt,
-        &mut executor,
-        &[(Step::ShutDown(5), Told::First(Ok(false)))],
+    assert_eq!(rt;
+        do_step(&mut executor, Step::ShutDown(5)),
+        Told::First(false)
     );
     add(&executor, Answer::ShutdownAgain, &mut lines)?;
     let wanted = [
@@ -71,7 +68,7 @@ fn lines_that_have_no_room_are_not_added(rt: HostRuntime) -> Result<(), Fail> {
     let heap = Refusing::new(rt.alloc());
     let mut executor = ScheduledExecutor::new(rt.alloc(), 1)?;
     let mut lines = Vec::new(&heap);
-    play_over(&rt, &mut executor, &shutting());
+    play_over(&rt, &mut executor, ("shutting", SHUTTING));
     heap.refuse(1);
     let refused = add(&executor, Answer::Shutdown, &mut lines);
     assert_eq!(rt; (refused, lines.len()), (Err(LinesError::Memory), 0));

@@ -2,7 +2,7 @@
 
 use crate::{Asked, Begun, CallError, Ended, ScheduledExecutor, StartError, Submitted, TaskRef};
 use executor_model::{CancelEffect, EventError, Outcome};
-use sched_time::{Ending, Policies, Which};
+use sched_time::{Ending, Which};
 use std::alloc::Allocator;
 
 /// What is done. A task is named by its number and its slot.
@@ -18,7 +18,10 @@ pub enum Step {
     Reserve(u32),
     Clock(u64),
     Start(u8),
-    Finish(u8, Ending),
+    /// A run of this worker ends with this value.
+    Finish(u8, u64),
+    /// It fails with this code.
+    Fail(u8, u32),
     Cancel(u64, u32),
     CancelNumber(u64),
     /// At this moment.
@@ -39,23 +42,42 @@ pub enum Step {
     Ends,
 }
 
-/// What is told.
+/// What is told. A task is its number and its slot.
 #[derive(Clone, Copy, Debug, PartialEq, Eq)]
 pub enum Told {
-    Submitted(Result<Submitted, CallError>),
-    Made(Result<(), CallError>),
-    First(Result<bool, CallError>),
-    Asked(Result<Asked, CallError>),
-    Cancelled(Result<CancelEffect, CallError>),
-    Clock(Result<(), EventError>),
-    Start(Result<Option<Begun>, StartError>),
-    Finish(Result<Ended, EventError>),
-    Outside(Result<CancelEffect, EventError>),
+    /// A submission was accepted: its task, and the due moment of the first run.
+    Accepted(u64, u32, u64),
+    /// A submission was rejected: its number.
+    Rejected(u64),
+    /// What has nothing else to tell was done.
+    Made,
+    /// A shutdown was made, and whether it was the first.
+    First(bool),
+    /// How many tasks are queued, how many run, and whether the executor is shut, and terminated.
+    Asked(usize, usize, bool, bool),
+    Cancelled(CancelEffect),
+    /// A run is begun: its task, its own number, and its due moment.
+    Begun(u64, u32, u64, u64),
+    /// No task is due.
+    Idle,
+    /// A run has ended: its task, its own number, and the value.
+    Done(u64, u32, u64, u64),
+    /// The same, and the code of the fault.
+    Failed(u64, u32, u64, u32),
+    /// The same, and the due moment of the next run.
+    Again(u64, u32, u64, u64),
+    Dropped(u64, u32, u64),
+    Ended(u64, u32, u64),
+    NoCall(CallError),
+    NoEvent(EventError),
+    /// No number is left for one more run.
+    NoRun,
     /// Now, and how many tasks have a slot.
     Looks(u64, usize),
     Due(Option<u64>),
     Waits(bool),
-    Policies(Policies),
+    /// Whether periodic tasks go on, delayed ones still run, and cancelled ones leave the queue.
+    Policies(bool, bool, bool),
     Shut(bool),
     Numbers(u64),
     Full(bool),
@@ -63,112 +85,136 @@ pub enum Told {
     Ends(usize, u64),
 }
 
+/// What a cancel did.
+pub const YES: Told = Told::Cancelled(CancelEffect::Yes);
+
+pub const NO: Told = Told::Cancelled(CancelEffect::No);
+
+/// Why a call is refused.
+pub const TOO_FAR: Told = Told::NoCall(CallError::TooFar);
+
+pub const NO_MEMORY: Told = Told::NoCall(CallError::Memory);
+
+/// Why an event is refused.
+pub const BUSY: Told = Told::NoEvent(EventError::Busy);
+
+pub const NO_TASK: Told = Told::NoEvent(EventError::NoTask);
+
+pub const NO_WORKER: Told = Told::NoEvent(EventError::NoWorker);
+
+/// The limit of moments and spans, in nanoseconds, and what is past it.
+pub const MOST: u64 = 1 << 62;
+
+pub const LATE: u64 = MOST + 1;
+
 /// A task.
-pub fn task_of(number: u64, slot: u32) -> TaskRef {
+fn task_of(number: u64, slot: u32) -> TaskRef {
     TaskRef { number, slot }
-}
-
-/// A submission was accepted: its number, its slot, and the due moment of the first run.
-pub fn accepted(number: u64, slot: u32, due: u64) -> Told {
-    let task = task_of(number, slot);
-    Told::Submitted(Ok(Submitted::Accepted { task, due }))
-}
-
-/// A submission was rejected: its number.
-pub fn rejected(number: u64) -> Told {
-    Told::Submitted(Ok(Submitted::Rejected { number }))
-}
-
-/// A run is begun: the number and the slot of its task, its own number, and its due moment.
-pub fn begun(number: u64, slot: u32, run: u64, due: u64) -> Told {
-    let task = task_of(number, slot);
-    Told::Start(Ok(Some(Begun { task, run, due })))
-}
-
-/// A run has ended: the number and the slot of its task, its own number, and how.
-pub fn ended(number: u64, slot: u32, run: u64, outcome: Outcome) -> Told {
-    let task = task_of(number, slot);
-    Told::Finish(Ok(Ended { task, run, outcome }))
-}
-
-/// An answer: how many tasks are queued, how many run, and whether the executor is shut, and terminated.
-pub fn asked(queue: usize, running: usize, shutdown: bool, terminated: bool) -> Told {
-    Told::Asked(Ok(Asked {
-        queue,
-        running,
-        shutdown,
-        terminated,
-    }))
-}
-
-/// The policies: whether periodic tasks go on, delayed ones still run, and cancelled ones leave the queue.
-pub fn policies(continues: bool, executes: bool, removes: bool) -> Told {
-    Told::Policies(Policies {
-        continues,
-        executes,
-        removes,
-    })
-}
-
-/// What is told where nothing else is.
-pub const DONE: Told = Told::Made(Ok(()));
-
-/// The clock was taken.
-pub const SHOWN: Told = Told::Clock(Ok(()));
-
-/// No task is due.
-pub const IDLE: Told = Told::Start(Ok(None));
-
-/// No task was ended.
-pub const NONE: Told = Told::Ends(0, 0);
-
-/// What a cancel from outside did.
-pub fn outside(effect: CancelEffect) -> Told {
-    Told::Outside(Ok(effect))
-}
-
-/// What a cancel by a call did.
-pub fn cancelled(effect: CancelEffect) -> Told {
-    Told::Cancelled(Ok(effect))
 }
 
 /// Does one step.
 pub fn do_step<A: Allocator>(executor: &mut ScheduledExecutor<A>, step: Step) -> Told {
     match step {
-        Step::Schedule(at, delay) => Told::Submitted(executor.schedule(at, delay)),
-        Step::Execute(at) => Told::Submitted(executor.execute(at)),
-        Step::AtRate(at, first, period) => Told::Submitted(executor.at_rate(at, first, period)),
-        Step::WithDelay(at, first, delay) => {
-            Told::Submitted(executor.with_delay(at, first, delay))
-        }
-        Step::Reserve(tasks) => Told::Made(executor.reserve(tasks)),
-        Step::Clock(moment) => Told::Clock(executor.clock(moment)),
-        Step::Start(worker) => Told::Start(executor.start(worker)),
-        Step::Finish(worker, ending) => Told::Finish(executor.finish(worker, ending)),
-        Step::Cancel(..)
-        | Step::CancelNumber(_)
-        | Step::CancelByCall(..)
-        | Step::CancelNumberByCall(..) => cancel(executor, step),
-        Step::SetPolicy(at, which, value) => Told::Made(executor.set_policy(at, which, value)),
-        Step::ShutDown(at) => Told::First(executor.shut_down(at)),
-        Step::ShutDownNow(at) => Told::Made(executor.shut_down_now(at)),
-        Step::Ask(at) => Told::Asked(executor.ask(at)),
-        _ => look(executor, step),
+        Step::Clock(_)
+        | Step::Start(_)
+        | Step::Finish(..)
+        | Step::Fail(..)
+        | Step::Cancel(..)
+        | Step::CancelNumber(_) => match meet(executor, step) {
+            Ok(told) => told,
+            Err(error) => Told::NoEvent(error),
+        },
+        _ => match call(executor, step) {
+            Ok(told) => told,
+            Err(error) => Told::NoCall(error),
+        },
     }
 }
 
-/// Cancels a task.
-fn cancel<A: Allocator>(executor: &mut ScheduledExecutor<A>, step: Step) -> Told {
-    match step {
-        Step::Cancel(number, slot) => Told::Outside(executor.cancel(task_of(number, slot))),
-        Step::CancelNumber(number) => Told::Outside(executor.cancel_number(number)),
+/// Makes a call, or looks.
+fn call<A: Allocator>(executor: &mut ScheduledExecutor<A>, step: Step) -> Result<Told, CallError> {
+    let told = match step {
+        Step::Schedule(at, delay) => submitted(executor.schedule(at, delay)?),
+        Step::Execute(at) => submitted(executor.execute(at)?),
+        Step::AtRate(at, first, period) => submitted(executor.at_rate(at, first, period)?),
+        Step::WithDelay(at, first, delay) => submitted(executor.with_delay(at, first, delay)?),
         Step::CancelByCall(at, number, slot) => {
-            Told::Cancelled(executor.cancel_by_call(at, task_of(number, slot)))
+            Told::Cancelled(executor.cancel_by_call(at, task_of(number, slot))?)
         }
         Step::CancelNumberByCall(at, number) => {
-            Told::Cancelled(executor.cancel_number_by_call(at, number))
+            Told::Cancelled(executor.cancel_number_by_call(at, number)?)
         }
-        _ => NONE,
+        Step::Reserve(tasks) => {
+            executor.reserve(tasks)?;
+            Told::Made
+        }
+        Step::SetPolicy(at, which, value) => {
+            executor.set_policy(at, which, value)?;
+            Told::Made
+        }
+        Step::ShutDownNow(at) => {
+            executor.shut_down_now(at)?;
+            Told::Made
+        }
+        Step::ShutDown(at) => Told::First(executor.shut_down(at)?),
+        Step::Ask(at) => asked(executor.ask(at)?),
+        _ => look(executor, step),
+    };
+    Ok(told)
+}
+
+/// What an ask tells.
+fn asked(asked: Asked) -> Told {
+    Told::Asked(asked.queue, asked.running, asked.shutdown, asked.terminated)
+}
+
+/// What a submission tells.
+fn submitted(submitted: Submitted) -> Told {
+    match submitted {
+        Submitted::Accepted { task, due } => Told::Accepted(task.number, task.slot, due),
+        Submitted::Rejected { number } => Told::Rejected(number),
+    }
+}
+
+/// Meets an event.
+fn meet<A: Allocator>(executor: &mut ScheduledExecutor<A>, step: Step) -> Result<Told, EventError> {
+    let told = match step {
+        Step::Clock(moment) => {
+            executor.clock(moment)?;
+            Told::Made
+        }
+        Step::Start(worker) => return start(executor, worker),
+        Step::Finish(worker, value) => ended(executor.finish(worker, Ending::Value(value))?),
+        Step::Fail(worker, fault) => ended(executor.finish(worker, Ending::Fault(fault))?),
+        Step::Cancel(number, slot) => Told::Cancelled(executor.cancel(task_of(number, slot))?),
+        Step::CancelNumber(number) => Told::Cancelled(executor.cancel_number(number)?),
+        _ => look(executor, step),
+    };
+    Ok(told)
+}
+
+/// What a start tells.
+fn start<A: Allocator>(
+    executor: &mut ScheduledExecutor<A>,
+    worker: u8,
+) -> Result<Told, EventError> {
+    match executor.start(worker) {
+        Ok(Some(Begun { task, run, due })) => Ok(Told::Begun(task.number, task.slot, run, due)),
+        Ok(None) => Ok(Told::Idle),
+        Err(StartError::Refused(error)) => Err(error),
+        Err(StartError::Full) => Ok(Told::NoRun),
+    }
+}
+
+/// What the end of a run tells.
+fn ended(ended: Ended) -> Told {
+    let TaskRef { number, slot } = ended.task;
+    match ended.outcome {
+        Outcome::Done(value) => Told::Done(number, slot, ended.run, value),
+        Outcome::Failed(fault) => Told::Failed(number, slot, ended.run, fault),
+        Outcome::Again(due) => Told::Again(number, slot, ended.run, due),
+        Outcome::Dropped => Told::Dropped(number, slot, ended.run),
+        Outcome::Ended => Told::Ended(number, slot, ended.run),
     }
 }
 
@@ -177,7 +223,10 @@ pub fn look<A: Allocator>(executor: &ScheduledExecutor<A>, step: Step) -> Told {
     match step {
         Step::NextDue => Told::Due(executor.next_due()),
         Step::IsWaiting(number, slot) => Told::Waits(executor.is_waiting(task_of(number, slot))),
-        Step::Policies => Told::Policies(executor.policies()),
+        Step::Policies => {
+            let policies = executor.policies();
+            Told::Policies(policies.continues, policies.executes, policies.removes)
+        }
         Step::IsShut => Told::Shut(executor.is_shut()),
         Step::Numbers => Told::Numbers(executor.numbers()),
         Step::IsFull => Told::Full(executor.is_full()),
@@ -193,4 +242,9 @@ fn ends<A: Allocator>(executor: &ScheduledExecutor<A>) -> Told {
         digits = digits.saturating_mul(10).saturating_add(task.number);
     }
     Told::Ends(executor.ended().len(), digits)
+}
+
+/// Whether a submission was accepted.
+pub fn is_accepted(told: Told) -> bool {
+    matches!(told, Told::Accepted(..))
 }

@@ -2,7 +2,7 @@
 
 ghost use Rattle.std.specs.Prelude.{◌<◌};
 
-use super::{agree, call, event};
+use super::agree;
 use call_text::CallLine;
 use executor_model::Event;
 use live_engine::LiveLine;
@@ -60,16 +60,16 @@ impl Dice {
     fn line(&mut self) -> LiveLine {
         if self.tasks < MOST_TASKS && self.below(8) < self.submits {
             self.tasks = self.tasks.saturating_add(1);
-            return call(self.submission());
+            return LiveLine::Call(self.submission());
         }
         match self.below(16) {
-            0 => call(self.rare_call()),
-            1 => call(self.policy()),
-            2 if self.tasks > 0 => call(CallLine::Cancel(self.task())),
-            3 => event(Event::Cancel(self.below(self.tasks.saturating_add(2)))),
-            4 | 5 | 6 => event(self.clock()),
-            7 | 8 | 9 | 10 | 11 => event(Event::Start(self.worker())),
-            _ => event(Event::Finish(self.worker(), self.ending())),
+            0 => LiveLine::Call(self.rare_call()),
+            1 => LiveLine::Call(self.policy()),
+            2 if self.tasks > 0 => LiveLine::Call(CallLine::Cancel(self.task())),
+            3 => LiveLine::Event(Event::Cancel(self.below(self.tasks.saturating_add(2)))),
+            4 | 5 | 6 => LiveLine::Event(self.clock()),
+            7 | 8 | 9 | 10 | 11 => LiveLine::Event(Event::Start(self.worker())),
+            _ => LiveLine::Event(Event::Finish(self.worker(), self.ending())),
         }
     }
 

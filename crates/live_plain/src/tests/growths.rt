@@ -1,21 +1,15 @@
 //! Want of memory: each growth is refused in turn.
 
-use super::{call, event};
+use super::read_lines;
 use crate::trace_of_lines;
-use call_text::CallLine;
-use executor_model::Event;
 use refusing_allocator::Refusing;
 use std::process::Abort;
 use std::test::Fail;
 
 #[test]
 fn each_growth_is_refused_in_turn(rt: HostRuntime) -> Result<(), Fail> {
-    let lines = [
-        call(CallLine::Schedule(0)),
-        call(CallLine::Rate(9, 1)),
-        event(Event::Start(0)),
-        call(CallLine::ShutdownNow),
-    ];
+    let text = "call schedule 0\ncall rate 9 1\nstart 0\ncall shutdown_now\n";
+    let lines = read_lines(rt.alloc(), text)?;
     for number in 1..100u64 {
         let heap = Refusing::new(rt.alloc());
         heap.refuse(number);

@@ -1,9 +1,8 @@
 //! Lines that are not plain, one for each reason.
 
-use super::{call, event};
+use super::read_lines;
 use crate::trace_of_lines;
 use call_text::CallLine;
-use executor_model::Event;
 use live_engine::LiveLine;
 use sched_time::LONGEST;
 use std::alloc::Global;
@@ -29,42 +28,35 @@ fn spans_and_periods_out_of_range(rt: HostRuntime) -> Result<(), Fail> {
         (CallLine::Fixed(0, 0), None),
         (CallLine::Fixed(0, u64::MAX), None),
     ] {
-        assert_eq!(rt; told(rt.alloc(), &[call(line)])?, wanted, "{line:?}");
+        assert_eq!(rt;
+            told(rt.alloc(), &[LiveLine::Call(line)])?,
+            wanted,
+            "{line:?}"
+        );
     }
     Ok(())
 }
 
 #[test]
-fn cancels_of_numbers_that_were_not_given_out(rt: HostRuntime) -> Result<(), Fail> {
-    let alloc = rt.alloc();
-    let submit = call(CallLine::Execute);
-    assert_eq!(rt; told(alloc, &[call(CallLine::Cancel(0))])?, None);
-    assert_eq!(rt; told(alloc, &[submit, call(CallLine::Cancel(0))])?, Some(2));
-    assert_eq!(rt; told(alloc, &[submit, call(CallLine::Cancel(1))])?, None);
-    assert_eq!(rt;
-        told(alloc, &[submit, call(CallLine::Cancel(u32::MAX))])?,
-        None
-    );
-    assert_eq!(rt;
-        told(alloc, &[submit, event(Event::Cancel(u32::MAX))])?,
-        Some(2)
-    );
-    Ok(())
-}
-
-#[test]
-fn calls_whose_moment_is_too_late(rt: HostRuntime) -> Result<(), Fail> {
-    let alloc = rt.alloc();
-    let submit = call(CallLine::Execute);
-    assert_eq!(rt;
-        told(alloc, &[event(Event::Clock(LONGEST - 1)), submit, submit])?,
-        Some(3)
-    );
-    assert_eq!(rt; told(alloc, &[event(Event::Clock(LONGEST)), submit])?, None);
-    assert_eq!(rt;
-        told(alloc, &[event(Event::Clock(LONGEST + 1)), submit])?,
-        Some(2)
-    );
+fn calls_that_may_not_be_made_when_they_come(rt: HostRuntime) -> Result<(), Fail> {
+    for (text, wanted) in [
+        // Cancels of numbers that were not given out. That of an event is plain.
+        ("call cancel 0\n", None),
+        ("call execute\ncall cancel 0\n", Some(2)),
+        ("call execute\ncall cancel 1\n", None),
+        ("call execute\ncall cancel 4294967295\n", None),
+        ("call execute\ncancel 4294967295\n", Some(2)),
+        // Calls whose moment is too late. A clock past 2^62 is answered by an error.
+        (
+            "clock 4611686018427387903\ncall execute\ncall execute\n",
+            Some(3),
+        ),
+        ("clock 4611686018427387904\ncall execute\n", None),
+        ("clock 4611686018427387905\ncall execute\n", Some(2)),
+    ] {
+        let lines = read_lines(rt.alloc(), text)?;
+        assert_eq!(rt; told(rt.alloc(), &lines)?, wanted, "{text}");
+    }
     Ok(())
 }
 
@@ -72,7 +64,7 @@ fn calls_whose_moment_is_too_late(rt: HostRuntime) -> Result<(), Fail> {
 fn more_calls_than_a_plan_may_have(rt: HostRuntime) -> Result<(), Fail> {
     let mut lines = Vec::new(rt.alloc());
     for _ in 0..65_537 {
-        lines.push(call(CallLine::Ask))?;
+        lines.push(LiveLine::Call(CallLine::Ask))?;
     }
     assert_eq!(rt; told(rt.alloc(), &lines)?, None);
     Ok(())

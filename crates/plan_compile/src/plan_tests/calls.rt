@@ -88,38 +88,23 @@ plan | op = "shutdown_now"
 TooLarge block 1 call 1 | op = "ask" / at = 9223372036854775807"#;
 
 /// Calls with two faults, each in both orders.
-pub const TELLS_THE_FIRST_FAULT_OF_A_CALL: &str = r#"Missing block 1 call 1 | x = 1 / name = 1
-Missing block 1 call 1 | name = 1 / x = 1
-WrongType block 1 call 1 | op = "run" / x = 1
-WrongType block 1 call 1 | x = 1 / op = "run"
-UnknownKey block 1 call 1 | op = "schedule" / x = 1 / delay = 1
-UnknownKey block 1 call 1 | delay = 1 / op = "schedule" / x = 1
-Missing block 1 call 1 | op = "schedule" / delay = "1"
-Missing block 1 call 1 | delay = "1" / op = "schedule"
-WrongType block 1 call 1 | op = "schedule" / name = "" / delay = "1"
-WrongType block 1 call 1 | delay = "1" / op = "schedule" / name = ""
-BadName block 1 call 1 | op = "cancel" / name = "" / at = -1
-BadName block 1 call 1 | at = -1 / op = "cancel" / name = ""
-UnknownName block 1 call 1 | op = "cancel" / name = "a" / at = -1
-UnknownName block 1 call 1 | at = -1 / op = "cancel" / name = "a"
-Negative block 1 call 1 | op = "schedule" / name = "a" / at = -1 / delay = 4611686018427387905
-Negative block 1 call 1 | delay = 4611686018427387905 / op = "schedule" / name = "a" / at = -1
-UnknownKey block 1 call 1 | op = "execute" / name = "" / delay = -1
-UnknownKey block 1 call 1 | delay = -1 / op = "execute" / name = ""
-BadName block 1 call 1 | op = "execute" / name = "" / at = -1
-BadName block 1 call 1 | at = -1 / op = "execute" / name = ""
-UnknownKey block 1 call 1 | op = "policy" / x = 1 / which = 1
-UnknownKey block 1 call 1 | which = 1 / op = "policy" / x = 1
-Missing block 1 call 1 | op = "policy" / which = "x"
-Missing block 1 call 1 | which = "x" / op = "policy"
-WrongType block 1 call 1 | op = "policy" / which = "x" / value = true / at = -1
-WrongType block 1 call 1 | value = true / at = -1 / op = "policy" / which = "x"
-UnknownKey block 1 call 1 | op = "shutdown" / name = "" / at = -1
-UnknownKey block 1 call 1 | at = -1 / op = "shutdown" / name = ""
+pub const TELLS_THE_FIRST_FAULT_OF_A_CALL: &str = r#"Missing block 1 call 1 | x = 1 ⇄ name = 1
+WrongType block 1 call 1 | op = "run" ⇄ x = 1
+UnknownKey block 1 call 1 | op = "schedule" / x = 1 ⇄ delay = 1
+Missing block 1 call 1 | op = "schedule" ⇄ delay = "1"
+WrongType block 1 call 1 | op = "schedule" / name = "" ⇄ delay = "1"
+BadName block 1 call 1 | op = "cancel" / name = "" ⇄ at = -1
+UnknownName block 1 call 1 | op = "cancel" / name = "a" ⇄ at = -1
+Negative block 1 call 1 | op = "schedule" / name = "a" / at = -1 ⇄ delay = 4611686018427387905
+UnknownKey block 1 call 1 | op = "execute" / name = "" ⇄ delay = -1
+BadName block 1 call 1 | op = "execute" / name = "" ⇄ at = -1
+UnknownKey block 1 call 1 | op = "policy" / x = 1 ⇄ which = 1
+Missing block 1 call 1 | op = "policy" ⇄ which = "x"
+WrongType block 1 call 1 | op = "policy" / which = "x" ⇄ value = true / at = -1
+UnknownKey block 1 call 1 | op = "shutdown" / name = "" ⇄ at = -1
 UnknownKey block 1 call 1 | op = "shutdown_now" / x = 1 / at = "1"
 UnknownKey block 1 call 1 | at = "1" / x = 1 / op = "shutdown_now"
-WrongType block 1 call 1 | op = "ask" / at = "-1"
-WrongType block 1 call 1 | at = "-1" / op = "ask""#;
+WrongType block 1 call 1 | op = "ask" ⇄ at = "-1""#;
 
 /// Faults of a second call.
 pub const TELLS_THE_FIRST_FAULT_OF_A_LATER_CALL: &str =

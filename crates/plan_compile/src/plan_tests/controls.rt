@@ -54,7 +54,7 @@ fn takes_control_characters_where_they_may_stand(rt: HostRuntime) -> Result<(), 
 pub const NAMED: &str = "version = 1\n[[block]]\n[[block.call]]\nop = \"cancel\"\n";
 
 /// Escapes in a name: control characters and others that no name has, and escapes that TOML has not.
-pub const TAKES_NO_NAME_OF_CONTROL_CHARACTERS: &str = r#"BadName block 1 call 1 | name = "\u0000"
+pub const TAKES_NO_NAME_OF_CONTROLS: &str = r#"BadName block 1 call 1 | name = "\u0000"
 BadName block 1 call 1 | name = "\x7f"
 BadName block 1 call 1 | name = "\t"
 BadName block 1 call 1 | name = "\n"

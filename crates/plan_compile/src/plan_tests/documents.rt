@@ -32,7 +32,7 @@ WrongType block 1 call 0 | [[block]] / [block.call]
 UnknownKey block 1 call 0 | [[block]] / [block.x]"#;
 
 /// Lines and line ends, and a byte order mark.
-pub const TAKES_LINE_ENDS_AND_A_BYTE_ORDER_MARK_WHERE_THEY_MAY_STAND: &str = r#"plan | version = 1␍⏎
+pub const TAKES_LINE_ENDS_AND_A_BYTE_ORDER_MARK: &str = r#"plan | version = 1␍⏎
 plan | version = 1 # one␍⏎␍⏎[[block]]␍⏎at = 0
 Toml block 0 call 0 | version = 1␍
 Toml block 0 call 0 | version = 1␍[[block]]

@@ -21,18 +21,12 @@ TooLarge block 1 call 0 | every = 4611686018427387905
 TooLarge block 1 call 0 | unit = "s" / at = 9223372036854775807"#;
 
 /// Headers with two faults, each in both orders.
-pub const TELLS_THE_FIRST_FAULT_OF_A_HEADER: &str = r#"UnknownKey block 1 call 0 | x = 1 / at = "0"
-UnknownKey block 1 call 0 | at = "0" / x = 1
-WrongType block 1 call 0 | times = "2" / unit = "year"
-WrongType block 1 call 0 | unit = "year" / times = "2"
-BadUnit block 1 call 0 | unit = "year" / times = 0
-BadUnit block 1 call 0 | times = 0 / unit = "year"
-BadTimes block 1 call 0 | times = 65537 / at = 0
-BadTimes block 1 call 0 | at = 0 / times = 65537
-Missing block 1 call 0 | times = 2 / at = -1
-Missing block 1 call 0 | at = -1 / times = 2
-Negative block 1 call 0 | every = -1 / at = 4611686018427387905
-Negative block 1 call 0 | at = 4611686018427387905 / every = -1"#;
+pub const TELLS_THE_FIRST_FAULT_OF_A_HEADER: &str = r#"UnknownKey block 1 call 0 | x = 1 ⇄ at = "0"
+WrongType block 1 call 0 | times = "2" ⇄ unit = "year"
+BadUnit block 1 call 0 | unit = "year" ⇄ times = 0
+BadTimes block 1 call 0 | times = 65537 ⇄ at = 0
+Missing block 1 call 0 | times = 2 ⇄ at = -1
+Negative block 1 call 0 | every = -1 ⇄ at = 4611686018427387905"#;
 
 /// Faults of a second block, behind one that begins at 100.
 pub const REFUSES_A_HEADER_AFTER_ANOTHER_BLOCK: &str =

@@ -16,6 +16,7 @@ d 53375 53376 4611600000000000000 Day";
 const SPOTS: &str = r#" | at | block 1 call 0 | block T U 1 0 | 0 | Negative
  | every | block 1 call 0 | block 0 U 1 T | 0 | Negative
 [[block.call]] / op = "ask" | at | block 1 call 1 | block 0 U 1 0 / T ask | 0 | Negative
+[[block.call]] / op = "schedule" / name = "a" / delay = 0 | at | block 1 call 1 | block 0 U 1 0 / T schedule a 0 | 0 | Negative
 [[block.call]] / op = "schedule" / name = "a" | delay | block 1 call 1 | block 0 U 1 0 / 0 schedule a T | 0 | 0
 [[block.call]] / op = "rate" / name = "a" / period = 0 | first | block 1 call 1 | block 0 U 1 0 / 0 rate a T none | 0 | 0
 [[block.call]] / op = "fixed" / name = "a" / delay = 0 | first | block 1 call 1 | block 0 U 1 0 / 0 fixed a T none | 0 | 0

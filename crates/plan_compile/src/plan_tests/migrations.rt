@@ -116,33 +116,18 @@ fn a_migrated_text_has_the_unit_beside_each_time(rt: HostRuntime) -> Result<(), 
 /// Texts of version 1 and what their migrated texts write.
 const KEPT: [Kept<'_>; 3] = [
     Kept {
-        lines: "block 7000 Ns 2 9000
-2000 rate Az-_09 4000 5000
-9000 fixed never 6000 none
-block 1000000 Ns 1 0
-",
+        lines: "block 7000 Ns 2 9000\n2000 rate Az-_09 4000 5000\n9000 fixed never 6000 none\n\
+                block 1000000 Ns 1 0\n",
         ..parts::PARTS_OF_A_PLAN
     },
     Kept {
         name: "calls of two units",
-        text: "version = 1
-[[block]]
-unit = \"s\"
-at = 1
-call = [{ op = \"schedule\", name = \"a\", delay = -1 }, { op = \"policy\", which = \"remove\", value = false }]
-[[block]]
-unit = \"ms\"
-at = 1000
-call = [{ op = \"cancel\", name = \"a\" }, { op = \"ask\", at = 1 }, { op = \"shutdown\", at = 2 }]
-",
-        lines: "block 1000000000 Ns 1 0
-0 schedule a 0
-0 policy Remove false
-block 1000000000 Ns 1 0
-0 cancel 0 0
-1000000 ask
-2000000 shutdown
-",
+        text: "version = 1\n[[block]]\nunit = 's'\nat = 1\ncall = [\
+               { op = 'schedule', name = 'a', delay = -1 }, { op = 'policy', which = 'remove', value = false }]\n\
+               [[block]]\nunit = 'ms'\nat = 1000\ncall = [\
+               { op = 'cancel', name = 'a' }, { op = 'ask', at = 1 }, { op = 'shutdown', at = 2 }]",
+        lines: "block 1000000000 Ns 1 0\n0 schedule a 0\n0 policy Remove false\n\
+                block 1000000000 Ns 1 0\n0 cancel 0 0\n1000000 ask\n2000000 shutdown\n",
     },
     Kept {
         name: "no block",

@@ -11,81 +11,35 @@ pub struct Kept<'a> {
 
 pub const PARTS_OF_A_PLAN: Kept<'static> = Kept {
     name: "parts of a plan",
-    text: "version = 1
-[[block]]
-at = 7
-unit = \"us\"
-times = 2
-every = 9
-call = [
-  { op = \"rate\", name = \"Az-_09\", first = 4, period = 5, at = 2 },
-  { op = \"fixed\", name = \"never\", first = 6, delay = 0, at = 9 },
-]
-[[block]]
-at = 1000000
-",
-    lines: "block 7000 Us 2 9000
-2000 rate Az-_09 4000 5000
-9000 fixed never 6000 none
-block 1000000 Ns 1 0
-",
+    text: "version = 1\n[[block]]\nat = 7\nunit = 'us'\ntimes = 2\nevery = 9\ncall = [\n\
+           { op = 'rate', name = 'Az-_09', first = 4, period = 5, at = 2 },\n\
+           { op = 'fixed', name = 'never', first = 6, delay = 0, at = 9 },\n]\n\
+           [[block]]\nat = 1000000\n",
+    lines: "block 7000 Us 2 9000\n2000 rate Az-_09 4000 5000\n9000 fixed never 6000 none\n\
+            block 1000000 Ns 1 0\n",
 };
 
 const POLICIES_SHUTDOWNS_AND_QUESTIONS: Kept<'static> = Kept {
     name: "policies, shutdowns and questions",
-    text: "version = 1
-[[block]]
-unit = \"us\"
-call = [
-  { op = \"policy\", which = \"continue\", value = true },
-  { op = \"policy\", which = \"execute\", value = false, at = 1 },
-  { op = \"policy\", which = \"remove\", value = true, at = 2 },
-  { op = \"shutdown\", at = 2 },
-  { op = \"shutdown_now\", at = 2 },
-  { op = \"ask\", at = 3 },
-]
-",
-    lines: "block 0 Us 1 0
-0 policy Continue true
-1000 policy Execute false
-2000 policy Remove true
-2000 shutdown
-2000 shutdown_now
-3000 ask
-",
+    text: "version = 1\n[[block]]\nunit = 'us'\ncall = [\
+           { op = 'policy', which = 'continue', value = true },\
+           { op = 'policy', which = 'execute', value = false, at = 1 },\
+           { op = 'policy', which = 'remove', value = true, at = 2 },\
+           { op = 'shutdown', at = 2 }, { op = 'shutdown_now', at = 2 }, { op = 'ask', at = 3 }]",
+    lines: "block 0 Us 1 0\n0 policy Continue true\n1000 policy Execute false\n\
+            2000 policy Remove true\n2000 shutdown\n2000 shutdown_now\n3000 ask\n",
 };
 
 const TARGETS_OF_CANCELS: Kept<'static> = Kept {
     name: "targets of cancels",
-    text: "version = 1
-[[block]]
-call = [
-  { op = \"schedule\", name = \"a\", delay = 1 },
-  { op = \"rate\", name = \"b\", first = 1, period = 0 },
-]
-[[block]]
-times = 2
-every = 5
-call = [
-  { op = \"schedule\", name = \"c\", delay = 1 },
-  { op = \"cancel\", name = \"b\" },
-  { op = \"fixed\", name = \"d\", first = 1, delay = 1 },
-  { op = \"execute\", name = \"e\", at = 3 },
-  { op = \"cancel\", name = \"d\", at = 5 },
-  { op = \"cancel\", name = \"e\", at = 5 },
-]
-",
-    lines: "block 0 Ns 1 0
-0 schedule a 1
-0 rate b 1 none
-block 0 Ns 2 5
-0 schedule c 1
-0 cancel 0 1
-0 fixed d 1 1
-3 execute e
-5 cancel 1 1
-5 cancel 1 2
-",
+    text: "version = 1\n[[block]]\ncall = [\
+           { op = 'schedule', name = 'a', delay = 1 }, { op = 'rate', name = 'b', first = 1, period = 0 }]\n\
+           [[block]]\ntimes = 2\nevery = 5\ncall = [\
+           { op = 'schedule', name = 'c', delay = 1 }, { op = 'cancel', name = 'b' },\
+           { op = 'fixed', name = 'd', first = 1, delay = 1 }, { op = 'execute', name = 'e', at = 3 },\
+           { op = 'cancel', name = 'd', at = 5 }, { op = 'cancel', name = 'e', at = 5 }]",
+    lines: "block 0 Ns 1 0\n0 schedule a 1\n0 rate b 1 none\n\
+            block 0 Ns 2 5\n0 schedule c 1\n0 cancel 0 1\n0 fixed d 1 1\n3 execute e\n5 cancel 1 1\n5 cancel 1 2\n",
 };
 
 /// Plans without calls, and times: the longest of each unit of version 1, and some in days. A row has what the plan keeps, ` | `, and

@@ -2,7 +2,7 @@
 use super::*;
 
 /// Policies, shutdowns of both kinds and questions in repeated blocks; none is a submission that a cancel could name.
-pub const REFUSES_A_POLICY_A_SHUTDOWN_AND_A_QUESTION_IN_A_REPEATED_BLOCK: &str =
+pub const REFUSES_POLICIES_SHUTDOWNS_AND_QUESTIONS: &str =
     r#"OutOfOrder block 1 call 2 | times = 2 / every = 4 / call = [{ op = "ask", at = 4 }, { op = "policy", which = "continue", value = false, at = 3 }]
 OutOfOrder block 1 call 2 | times = 2 / every = 9 / call = [{ op = "ask", at = 4 }, { op = "policy", which = "continue", value = false, at = 10 }]
 TooLarge block 1 call 2 | times = 2 / every = 4611686018427387900 / call = [{ op = "ask", at = 4 }, { op = "policy", which = "continue", value = false, at = 5 }]

@@ -2,120 +2,65 @@
 use super::*;
 
 /// Headers of version 2 with two faults, each in both orders.
-pub const TELLS_THE_FIRST_FAULT_OF_A_HEADER_WITH_UNITS: &str =
-    r#"UnknownKey block 1 call 0 | unit = "s" / at_unit = 1
-UnknownKey block 1 call 0 | at_unit = 1 / unit = "s"
-UnknownKey block 1 call 0 | unit = "year" / every_unit = "year"
-UnknownKey block 1 call 0 | every_unit = "year" / unit = "year"
-UnknownKey block 1 call 0 | delay_unit = 1 / at = "1"
-UnknownKey block 1 call 0 | at = "1" / delay_unit = 1
-WrongType block 1 call 0 | at_unit = "year" / every_unit = 1
-WrongType block 1 call 0 | every_unit = 1 / at_unit = "year"
-WrongType block 1 call 0 | every_unit = "year" / at_unit = 1
-WrongType block 1 call 0 | at_unit = 1 / every_unit = "year"
-WrongType block 1 call 0 | at_unit = "year" / at = "1"
-WrongType block 1 call 0 | at = "1" / at_unit = "year"
-WrongType block 1 call 0 | at_unit = "year" / every = 1.0
-WrongType block 1 call 0 | every = 1.0 / at_unit = "year"
-WrongType block 1 call 0 | every_unit = "year" / times = "2"
-WrongType block 1 call 0 | times = "2" / every_unit = "year"
-WrongType block 1 call 0 | every_unit = "year" / call = 1
-WrongType block 1 call 0 | call = 1 / every_unit = "year"
-WrongType block 1 call 0 | at_unit = 1 / times = 0
-WrongType block 1 call 0 | times = 0 / at_unit = 1
-BadUnit block 1 call 0 | at_unit = "year" / times = 0
-BadUnit block 1 call 0 | times = 0 / at_unit = "year"
-BadUnit block 1 call 0 | every_unit = "year" / times = 65537
-BadUnit block 1 call 0 | times = 65537 / every_unit = "year"
-BadUnit block 1 call 0 | at_unit = "year" / times = 2
-BadUnit block 1 call 0 | times = 2 / at_unit = "year"
-BadUnit block 1 call 0 | every_unit = "year" / times = 2
-BadUnit block 1 call 0 | times = 2 / every_unit = "year"
-BadUnit block 1 call 0 | at_unit = "year" / at = -1
-BadUnit block 1 call 0 | at = -1 / at_unit = "year"
-BadUnit block 1 call 0 | at_unit = "year" / every = -1
-BadUnit block 1 call 0 | every = -1 / at_unit = "year"
-BadUnit block 1 call 0 | every_unit = "year" / at = -1
-BadUnit block 1 call 0 | at = -1 / every_unit = "year"
-BadUnit block 1 call 0 | at_unit = "year" / at = 9223372036854775807
-BadUnit block 1 call 0 | at = 9223372036854775807 / at_unit = "year"
-BadUnit block 1 call 0 | every_unit = "year" / at = 4611686018427387905
-BadUnit block 1 call 0 | at = 4611686018427387905 / every_unit = "year"
-BadUnit block 1 call 0 | at_unit = "year" / times = 65536 / every = 0 / call = [{ op = "ask" }, { op = "ask" }]
-BadUnit block 1 call 0 | times = 65536 / every = 0 / call = [{ op = "ask" }, { op = "ask" }] / at_unit = "year"
-BadUnit block 1 call 0 | at_unit = "year" / call = [{}]
-BadUnit block 1 call 0 | call = [{}] / at_unit = "year"
-BadTimes block 1 call 0 | at = -1 / at_unit = "d" / times = 0
-BadTimes block 1 call 0 | times = 0 / at = -1 / at_unit = "d"
-Missing block 1 call 0 | at = -1 / at_unit = "d" / times = 2 / every_unit = "d"
-Missing block 1 call 0 | times = 2 / every_unit = "d" / at = -1 / at_unit = "d"
-Negative block 1 call 0 | at = 53376 / at_unit = "d" / every = -1 / every_unit = "h"
-Negative block 1 call 0 | every = -1 / every_unit = "h" / at = 53376 / at_unit = "d"
-Negative block 1 call 0 | at = -1 / at_unit = "min" / every = 53376 / every_unit = "d"
-Negative block 1 call 0 | every = 53376 / every_unit = "d" / at = -1 / at_unit = "min""#;
+pub const TELLS_THE_FIRST_FAULT_OF_A_HEADER: &str =
+    r#"UnknownKey block 1 call 0 | unit = "s" ⇄ at_unit = 1
+UnknownKey block 1 call 0 | unit = "year" ⇄ every_unit = "year"
+UnknownKey block 1 call 0 | delay_unit = 1 ⇄ at = "1"
+WrongType block 1 call 0 | at_unit = "year" ⇄ every_unit = 1
+WrongType block 1 call 0 | every_unit = "year" ⇄ at_unit = 1
+WrongType block 1 call 0 | at_unit = "year" ⇄ at = "1"
+WrongType block 1 call 0 | at_unit = "year" ⇄ every = 1.0
+WrongType block 1 call 0 | every_unit = "year" ⇄ times = "2"
+WrongType block 1 call 0 | every_unit = "year" ⇄ call = 1
+WrongType block 1 call 0 | at_unit = 1 ⇄ times = 0
+BadUnit block 1 call 0 | at_unit = "year" ⇄ times = 0
+BadUnit block 1 call 0 | every_unit = "year" ⇄ times = 65537
+BadUnit block 1 call 0 | at_unit = "year" ⇄ times = 2
+BadUnit block 1 call 0 | every_unit = "year" ⇄ times = 2
+BadUnit block 1 call 0 | at_unit = "year" ⇄ at = -1
+BadUnit block 1 call 0 | at_unit = "year" ⇄ every = -1
+BadUnit block 1 call 0 | every_unit = "year" ⇄ at = -1
+BadUnit block 1 call 0 | at_unit = "year" ⇄ at = 9223372036854775807
+BadUnit block 1 call 0 | every_unit = "year" ⇄ at = 4611686018427387905
+BadUnit block 1 call 0 | at_unit = "year" ⇄ times = 65536 / every = 0 / call = [{ op = "ask" }, { op = "ask" }]
+BadUnit block 1 call 0 | at_unit = "year" ⇄ call = [{}]
+BadTimes block 1 call 0 | at = -1 / at_unit = "d" ⇄ times = 0
+Missing block 1 call 0 | at = -1 / at_unit = "d" ⇄ times = 2 / every_unit = "d"
+Negative block 1 call 0 | at = 53376 / at_unit = "d" ⇄ every = -1 / every_unit = "h"
+Negative block 1 call 0 | at = -1 / at_unit = "min" ⇄ every = 53376 / every_unit = "d""#;
 
 /// Calls of version 2 with two faults, each in both orders.
-pub const TELLS_THE_FIRST_FAULT_OF_A_CALL_WITH_UNITS: &str =
-    r#"Missing block 1 call 1 | at_unit = "year" / name = "a"
-Missing block 1 call 1 | name = "a" / at_unit = "year"
-Missing block 1 call 1 | at_unit = 1 / every_unit = "s"
-Missing block 1 call 1 | every_unit = "s" / at_unit = 1
-WrongType block 1 call 1 | at_unit = "year" / op = "run"
-WrongType block 1 call 1 | op = "run" / at_unit = "year"
-WrongType block 1 call 1 | delay_unit = "year" / op = 1
-WrongType block 1 call 1 | op = 1 / delay_unit = "year"
-UnknownKey block 1 call 1 | op = "execute" / name = "a" / delay_unit = "year"
-UnknownKey block 1 call 1 | delay_unit = "year" / op = "execute" / name = "a"
-UnknownKey block 1 call 1 | op = "execute" / name = 1 / delay_unit = "s"
-UnknownKey block 1 call 1 | delay_unit = "s" / op = "execute" / name = 1
-UnknownKey block 1 call 1 | op = "ask" / at_unit = "year" / every_unit = "s"
-UnknownKey block 1 call 1 | every_unit = "s" / op = "ask" / at_unit = "year"
-UnknownKey block 1 call 1 | op = "schedule" / name = "a" / unit = "s"
-UnknownKey block 1 call 1 | unit = "s" / op = "schedule" / name = "a"
-Missing block 1 call 1 | op = "schedule" / name = "a" / delay_unit = "year"
-Missing block 1 call 1 | delay_unit = "year" / op = "schedule" / name = "a"
-Missing block 1 call 1 | op = "schedule" / name = "a" / delay_unit = 1
-Missing block 1 call 1 | delay_unit = 1 / op = "schedule" / name = "a"
-Missing block 1 call 1 | op = "rate" / name = "a" / period = 1 / first_unit = "s"
-Missing block 1 call 1 | first_unit = "s" / op = "rate" / name = "a" / period = 1
-WrongType block 1 call 1 | op = "schedule" / delay = 1 / delay_unit = "year" / name = 1
-WrongType block 1 call 1 | name = 1 / op = "schedule" / delay = 1 / delay_unit = "year"
-WrongType block 1 call 1 | op = "schedule" / name = "a" / delay_unit = "year" / delay = "1"
-WrongType block 1 call 1 | delay = "1" / op = "schedule" / name = "a" / delay_unit = "year"
-WrongType block 1 call 1 | op = "schedule" / name = "a" / delay = 1 / delay_unit = "year" / at_unit = 1
-WrongType block 1 call 1 | at_unit = 1 / op = "schedule" / name = "a" / delay = 1 / delay_unit = "year"
-WrongType block 1 call 1 | op = "fixed" / name = "a" / first = 1 / delay = 1 / first_unit = "year" / delay_unit = 1
-WrongType block 1 call 1 | delay_unit = 1 / op = "fixed" / name = "a" / first = 1 / delay = 1 / first_unit = "year"
-WrongType block 1 call 1 | op = "rate" / name = "a" / first = 1 / period = 1 / period_unit = "year" / first_unit = 1
-WrongType block 1 call 1 | first_unit = 1 / op = "rate" / name = "a" / first = 1 / period = 1 / period_unit = "year"
-WrongType block 1 call 1 | op = "policy" / value = true / at_unit = "year" / which = "x"
-WrongType block 1 call 1 | which = "x" / op = "policy" / value = true / at_unit = "year"
-WrongType block 1 call 1 | op = "execute" / name = "" / at_unit = 1
-WrongType block 1 call 1 | at_unit = 1 / op = "execute" / name = ""
-BadUnit block 1 call 1 | op = "execute" / name = "" / at_unit = "year"
-BadUnit block 1 call 1 | at_unit = "year" / op = "execute" / name = ""
-BadUnit block 1 call 1 | op = "schedule" / name = "" / delay = 1 / delay_unit = "year"
-BadUnit block 1 call 1 | delay_unit = "year" / op = "schedule" / name = "" / delay = 1
-BadUnit block 1 call 1 | op = "rate" / name = "" / first = 1 / period = 1 / period_unit = "year"
-BadUnit block 1 call 1 | period_unit = "year" / op = "rate" / name = "" / first = 1 / period = 1
-BadUnit block 1 call 1 | op = "cancel" / name = "a" / at_unit = "year"
-BadUnit block 1 call 1 | at_unit = "year" / op = "cancel" / name = "a"
-BadUnit block 1 call 1 | op = "ask" / at = -1 / at_unit = "year"
-BadUnit block 1 call 1 | at_unit = "year" / op = "ask" / at = -1
-BadUnit block 1 call 1 | op = "schedule" / name = "a" / delay = 1 / at = -1 / delay_unit = "year"
-BadUnit block 1 call 1 | delay_unit = "year" / op = "schedule" / name = "a" / delay = 1 / at = -1
-BadUnit block 1 call 1 | op = "ask" / at = 4611686018427387905 / at_unit = "year"
-BadUnit block 1 call 1 | at_unit = "year" / op = "ask" / at = 4611686018427387905
-BadUnit block 1 call 1 | op = "schedule" / name = "a" / delay = 4611686018427387905 / at_unit = "year"
-BadUnit block 1 call 1 | at_unit = "year" / op = "schedule" / name = "a" / delay = 4611686018427387905
-BadUnit block 1 call 1 | op = "rate" / name = "a" / first = 1 / period = 53376 / period_unit = "d" / first_unit = "year"
-BadUnit block 1 call 1 | first_unit = "year" / op = "rate" / name = "a" / first = 1 / period = 53376 / period_unit = "d"
-BadName block 1 call 1 | op = "schedule" / delay = 53376 / delay_unit = "d" / name = ""
-BadName block 1 call 1 | name = "" / op = "schedule" / delay = 53376 / delay_unit = "d"
-UnknownName block 1 call 1 | op = "cancel" / at = 53376 / at_unit = "d" / name = "a"
-UnknownName block 1 call 1 | name = "a" / op = "cancel" / at = 53376 / at_unit = "d"
-Negative block 1 call 1 | op = "schedule" / name = "a" / delay = 53376 / delay_unit = "d" / at = -1 / at_unit = "h"
-Negative block 1 call 1 | at = -1 / at_unit = "h" / op = "schedule" / name = "a" / delay = 53376 / delay_unit = "d""#;
+pub const TELLS_THE_FIRST_FAULT_OF_A_CALL: &str =
+    r#"Missing block 1 call 1 | at_unit = "year" ⇄ name = "a"
+Missing block 1 call 1 | at_unit = 1 ⇄ every_unit = "s"
+WrongType block 1 call 1 | at_unit = "year" ⇄ op = "run"
+WrongType block 1 call 1 | delay_unit = "year" ⇄ op = 1
+UnknownKey block 1 call 1 | op = "execute" / name = "a" ⇄ delay_unit = "year"
+UnknownKey block 1 call 1 | op = "execute" / name = 1 ⇄ delay_unit = "s"
+UnknownKey block 1 call 1 | op = "ask" / at_unit = "year" ⇄ every_unit = "s"
+UnknownKey block 1 call 1 | op = "schedule" / name = "a" ⇄ unit = "s"
+Missing block 1 call 1 | op = "schedule" / name = "a" ⇄ delay_unit = "year"
+Missing block 1 call 1 | op = "schedule" / name = "a" ⇄ delay_unit = 1
+Missing block 1 call 1 | op = "rate" / name = "a" / period = 1 ⇄ first_unit = "s"
+WrongType block 1 call 1 | op = "schedule" / delay = 1 / delay_unit = "year" ⇄ name = 1
+WrongType block 1 call 1 | op = "schedule" / name = "a" / delay_unit = "year" ⇄ delay = "1"
+WrongType block 1 call 1 | op = "schedule" / name = "a" / delay = 1 / delay_unit = "year" ⇄ at_unit = 1
+WrongType block 1 call 1 | op = "fixed" / name = "a" / first = 1 / delay = 1 / first_unit = "year" ⇄ delay_unit = 1
+WrongType block 1 call 1 | op = "rate" / name = "a" / first = 1 / period = 1 / period_unit = "year" ⇄ first_unit = 1
+WrongType block 1 call 1 | op = "policy" / value = true / at_unit = "year" ⇄ which = "x"
+WrongType block 1 call 1 | op = "execute" / name = "" ⇄ at_unit = 1
+BadUnit block 1 call 1 | op = "execute" / name = "" ⇄ at_unit = "year"
+BadUnit block 1 call 1 | op = "schedule" / name = "" / delay = 1 ⇄ delay_unit = "year"
+BadUnit block 1 call 1 | op = "rate" / name = "" / first = 1 / period = 1 ⇄ period_unit = "year"
+BadUnit block 1 call 1 | op = "cancel" / name = "a" ⇄ at_unit = "year"
+BadUnit block 1 call 1 | op = "ask" / at = -1 ⇄ at_unit = "year"
+BadUnit block 1 call 1 | op = "schedule" / name = "a" / delay = 1 / at = -1 ⇄ delay_unit = "year"
+BadUnit block 1 call 1 | op = "ask" / at = 4611686018427387905 ⇄ at_unit = "year"
+BadUnit block 1 call 1 | op = "schedule" / name = "a" / delay = 4611686018427387905 ⇄ at_unit = "year"
+BadUnit block 1 call 1 | op = "rate" / name = "a" / first = 1 / period = 53376 / period_unit = "d" ⇄ first_unit = "year"
+BadName block 1 call 1 | op = "schedule" / delay = 53376 / delay_unit = "d" ⇄ name = ""
+UnknownName block 1 call 1 | op = "cancel" / at = 53376 / at_unit = "d" ⇄ name = "a"
+Negative block 1 call 1 | op = "schedule" / name = "a" / delay = 53376 / delay_unit = "d" ⇄ at = -1 / at_unit = "h""#;
 
 /// Blocks and calls of version 2 behind others.
 pub const ORDERS_TIMES_OF_DIFFERENT_UNITS: &str =

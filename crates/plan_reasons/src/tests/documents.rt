@@ -1,25 +1,20 @@
 //! Texts that are no document, or too long.
-
-use super::{reason, tell, told};
+use super::{reason, told};
 use crate::{Found, Wanted};
 use plan_read::PlanFaultKind;
 use std::alloc::Global;
 use std::process::Abort;
 use std::test::Fail;
 
-#[test]
-fn no_documents(rt: HostRuntime) -> Result<(), Fail> {
-    tell(
-        &rt,
-        "version = 2\n",
-        "p:2:4: no TOML document; invalid value, expected a string, number, boolean, date-time, array or inline table | x =\n\
-         p:2:9: no TOML document; unclosed array table, expected `]]` | [[block] / at = 1\n\
-         p:4:1: no TOML document; duplicate key | [[block]] / at = 1 / at = 2\n\
-         p:2:10: no TOML document; invalid string | x = \"open\n\
-         p:3:5: no TOML document; number out of range | # / x = 99999999999999999999\n\
-         p:2:7: no TOML document; unexpected key or value, expected newline, `#` | x = 1 y = 2",
-    )
-}
+/// Tables that `tell_table` reads.
+pub const TABLES: &str = "\
+    no documents | version = 2 / \n\
+    p:2:4: no TOML document; invalid value, expected a string, number, boolean, date-time, array or inline table | x =\n\
+    p:2:9: no TOML document; unclosed array table, expected `]]` | [[block] / at = 1\n\
+    p:4:1: no TOML document; duplicate key | [[block]] / at = 1 / at = 2\n\
+    p:2:10: no TOML document; invalid string | x = \"open\n\
+    p:3:5: no TOML document; number out of range | # / x = 99999999999999999999\n\
+    p:2:7: no TOML document; unexpected key or value, expected newline, `#` | x = 1 y = 2";
 
 /// That the line and the column of a text which is no document are those that the crate prints.
 fn is_placed_as_the_crate_says(rt: &(impl AllocGlobal + Abort), text: &[u8]) -> Result<(), Fail> {

@@ -24,6 +24,27 @@ struct Row<'a> {
     text: &'a str,
 }
 
+impl<'a> Row<'a> {
+    /// The same between these ends.
+    fn between(self, reader: Script, writer: Script) -> Row<'a> {
+        Row {
+            reader,
+            writer,
+            ..self
+        }
+    }
+
+    /// The same with this fault, and this text.
+    fn fails(self, fault: RunError, text: &'a str) -> Row<'a> {
+        let answer = Err(fault);
+        Row {
+            answer,
+            text,
+            ..self
+        }
+    }
+}
+
 /// The example, read in pieces of 8 bytes, which are its lines.
 const EXAMPLE: Row<'static> = Row {
     plan: ONE_DELAY,
@@ -44,6 +65,16 @@ const PLAIN: Script = Script {
     trouble: Trouble::TakesNothing,
 };
 
+/// An end that gives or takes so many bytes a call, is interrupted so often before each other one, and is in trouble at one.
+fn script(most: usize, interrupts: u32, trouble_at: u32, trouble: Trouble) -> Script {
+    Script {
+        most,
+        interrupts,
+        trouble_at,
+        trouble,
+    }
+}
+
 /// Checks a run: its answer, that an end at fault was called no more, and what was written.
 fn plays<R: Threads + Wait + Sync + AllocGlobal + Abort>(rt: &R, row: &Row<'_>) {
     let (clocks, again) = (row.clocks.as_bytes(), row.again.as_bytes());
@@ -61,25 +92,15 @@ fn plays<R: Threads + Wait + Sync + AllocGlobal + Abort>(rt: &R, row: &Row<'_>) 
 
 #[test]
 fn fruitless_calls_are_tried_again(rt: HostRuntime) {
-    let slow = Script { most: 1, ..PLAIN };
-    let interrupted = Script {
-        interrupts: 999,
-        ..PLAIN
-    };
+    let slow = Script::smooth(1);
+    let interrupted = script(8, 999, 0, Trouble::TakesNothing);
     for (reader, writer) in [
         (slow, slow),
         (interrupted, slow),
         (slow, interrupted),
         (interrupted, interrupted),
     ] {
-        plays(
-            &rt,
-            &Row {
-                reader,
-                writer,
-                ..EXAMPLE
-            },
-        );
+        plays(&rt, &EXAMPLE.between(reader, writer));
     }
 }
 
@@ -92,91 +113,48 @@ fn tells_a_fault_of_the_reader(rt: HostRuntime) {
         (999, ErrorKind::Interrupted),
         (1_000, ErrorKind::Other),
     ] {
-        plays(
-            &rt,
-            &Row {
-                reader: Script {
-                    interrupts,
-                    trouble_at: 2,
-                    trouble: Trouble::Fails(kind),
-                    ..PLAIN
-                },
-                answer: Err(RunError::Read),
-                text: "",
-                ..EXAMPLE
-            },
-        );
+        let reader = script(8, interrupts, 2, Trouble::Fails(kind));
+        let row = EXAMPLE.between(reader, PLAIN);
+        plays(&rt, &row.fails(RunError::Read, ""));
     }
 }
 
 /// A writer at fault after 24 bytes.
 #[test]
 fn tells_a_fault_of_the_writer(rt: HostRuntime) {
+    let front = "0 submit 0 schedule due ";
     for (interrupts, trouble, text) in [
-        (
-            0u32,
-            Trouble::Fails(ErrorKind::BrokenPipe),
-            "0 submit 0 schedule due ",
-        ),
-        (0, Trouble::TakesNothing, "0 submit 0 schedule due "),
-        (999, Trouble::TakesNothing, "0 submit 0 schedule due "),
-        (
-            999,
-            Trouble::Fails(ErrorKind::Interrupted),
-            "0 submit 0 schedule due ",
-        ),
+        (0u32, Trouble::Fails(ErrorKind::BrokenPipe), front),
+        (0, Trouble::TakesNothing, front),
+        (999, Trouble::TakesNothing, front),
+        (999, Trouble::Fails(ErrorKind::Interrupted), front),
         (1_000, Trouble::TakesNothing, ""),
     ] {
-        plays(
-            &rt,
-            &Row {
-                writer: Script {
-                    interrupts,
-                    trouble_at: 4,
-                    trouble,
-                    ..PLAIN
-                },
-                answer: Err(RunError::Write),
-                text,
-                ..EXAMPLE
-            },
-        );
+        let row = EXAMPLE.between(PLAIN, script(8, interrupts, 4, trouble));
+        plays(&rt, &row.fails(RunError::Write, text));
     }
 }
 
 #[test]
 fn ends_on_readers_without_end(rt: HostRuntime) {
-    for most in [1usize, 65_536] {
-        for (again, answer) in [
-            ("a", RunError::EventLine(1)),
-            ("\n", RunError::EventLine(1)),
-            ("clock 0\n", RunError::Full),
-        ] {
-            plays(
-                &rt,
-                &Row {
-                    plan: "version = 1",
-                    limit: 5,
-                    clocks: "",
-                    again,
-                    reader: Script { most, ..PLAIN },
-                    answer: Err(answer),
-                    text: "",
-                    ..EXAMPLE
-                },
-            );
+    for (again, fault) in [
+        ("a", RunError::EventLine(1)),
+        ("\n", RunError::EventLine(1)),
+        ("clock 0\n", RunError::Full),
+    ] {
+        let row = Row {
+            plan: "version = 1",
+            limit: 5,
+            clocks: "",
+            again,
+            ..EXAMPLE
+        };
+        for most in [1usize, 65_536] {
+            let row = row.between(Script::smooth(most), PLAIN);
+            plays(&rt, &row.fails(fault, ""));
         }
     }
-    plays(
-        &rt,
-        &Row {
-            reader: Script {
-                interrupts: u32::MAX,
-                ..PLAIN
-            },
-            answer: Err(RunError::Read),
-            text: "",
-            ..EXAMPLE
-        },
-    );
+    let interrupted = script(8, u32::MAX, 0, Trouble::TakesNothing);
+    let row = EXAMPLE.between(interrupted, PLAIN);
+    plays(&rt, &row.fails(RunError::Read, ""));
 }

@@ -1,17 +1,12 @@
 //! The example of the folder `examples/pool`, with the bytes of its files: `tools/examples` compares them.
-use super::{conforms, ran};
-use sched_engine::Report;
+use super::{conforms, ran, report};
 use std::test::Fail;
 
 /// Which of its workers starts a task is left open, so the trace of a run is checked, and that of the file too.
 #[test]
 fn two_jobs_and_two_workers(rt: HostRuntime) -> Result<(), Fail> {
     let (answer, text) = ran(&rt, rt.alloc(), PLAN, 2, 1_000, CLOCKS, 65_536);
-    let report = Report {
-        events: 25,
-        lines: 30,
-    };
-    assert_eq!(&rt; answer, Ok(report));
+    assert_eq!(&rt; answer, Ok(report(25, 30)));
     conforms(&rt, PLAN, 2, &text)?;
     conforms(&rt, PLAN, 2, TRACE.as_bytes())
 }

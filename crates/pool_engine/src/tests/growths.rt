@@ -1,9 +1,9 @@
 //! Want of memory: a run is played with its first growth refused, then with its second and so on, on whichever thread it is
 //! asked for.
-use super::{CLOCKS, ONE_DELAY, REPORT, TRACE, is_same};
+use super::{CLOCKS, ONE_DELAY, REPORT, TRACE, is_same, report};
 use crate::run_pool;
 use byte_ends::{Pieces, Writing};
-use plan_read::{PlanFault, PlanFaultKind};
+use plan_read::PlanFaultKind;
 use refusing_allocator::Refusing;
 use sched_engine::{Report, RunError};
 use std::alloc::Global;
@@ -14,16 +14,10 @@ use std::thread::Threads;
 
 /// Whether an answer tells want of memory.
 fn is_memory(answer: Result<Report, RunError>) -> bool {
-    matches!(
-        answer,
-        Err(
-            RunError::Memory
-                | RunError::Plan(PlanFault {
-                    kind: PlanFaultKind::Memory,
-                    ..
-                })
-        )
-    )
+    match answer {
+        Err(RunError::Plan(fault)) => fault.kind == PlanFaultKind::Memory,
+        told => told == Err(RunError::Memory),
+    }
 }
 
 /// The answer of a run by two workers whose growth of this number is refused, what it wrote, and whether it asked for that growth.
@@ -72,11 +66,7 @@ fn count_refusals<R: Threads + Wait + Sync + AllocGlobal + Abort>(
 /// with what is counted beyond that a growth of the pool's run was refused, and told.
 #[test]
 fn each_growth_is_refused_in_turn(rt: HostRuntime) -> Result<(), Fail> {
-    let none = Report {
-        events: 0,
-        lines: 0,
-    };
-    let outside = count_refusals(&rt, "", none, "")?;
+    let outside = count_refusals(&rt, "", report(0, 0), "")?;
     let all = count_refusals(&rt, CLOCKS, REPORT, TRACE)?;
     assert!(&rt;
         outside > 0 && all > outside.saturating_add(1),

@@ -1,11 +1,12 @@
-//! Cursors through examples by hand.
+//! Cursors and agendas through examples by hand.
 ghost use Rattle.std.specs.Prelude.{◌≡◌};
 ghost use Rattle.queue_code.specs.Cursors.{IsCursorOf};
 
-use super::{THREE_TIMES, code_of};
-use crate::{Code, CodeCall, Cursor, Instr};
+use super::code_of;
+use crate::{Agenda, Code, CodeCall, Cursor, Instr};
 use sched_time::{LONGEST, Timing, Which};
 use std::alloc::Global;
+use std::process::Abort;
 use std::test::Fail;
 
 /// Whether the cursor looks at these calls, and fetches them, next.
@@ -35,175 +36,135 @@ fn submits_each(code: &Code<Global>, times: u32, every: u32) -> bool {
     cursor.fetch(code).is_none()
 }
 
-/// The submission that the loop below makes.
-fn submit(task: u32) -> CodeCall {
-    CodeCall::Submit {
-        task,
-        timing: Timing::Once,
-        delay: 50,
+/// A code's instructions, how many tasks they make, how many are executed up to the last call and up to the end, and the calls.
+struct Row<'a> {
+    name: &'a str,
+    instrs: &'a [Instr],
+    tasks: u32,
+    steps: (u64, u64),
+    calls: &'a [(u64, CodeCall)],
+}
+
+/// Rows, in which instructions and calls stand by their names.
+macro_rules! rows {
+    ($($name:literal, $tasks:literal tasks, steps $steps:expr;
+        [$($instr:tt)*] => [$(($at:expr, $call:ident $({ $($field:ident: $value:expr),* })?)),*];)*) => {
+        &[$(Row {
+            name: $name,
+            instrs: &instrs![$($instr)*],
+            tasks: $tasks,
+            steps: $steps,
+            calls: &[$(($at, CodeCall::$call $({ $($field: $value),* })?)),*],
+        }),*]
+    };
+}
+
+/// Whether an agenda shows these calls next, twice each, and goes past them.
+fn goes_past(agenda: &mut Agenda<Global>, calls: &[(u64, CodeCall)]) -> bool {
+    for call in calls {
+        let left = agenda.left();
+        if left == 0 || agenda.next() != Some(*call) || agenda.next() != Some(*call) {
+            return false;
+        }
+        if agenda.pass() != call.0 || agenda.left() != left - 1 {
+            return false;
+        }
     }
+    true
 }
 
-/// The call that sets a policy.
-fn set(which: Which, value: bool) -> CodeCall {
-    CodeCall::SetPolicy { which, value }
-}
-
-#[test]
-fn a_loop_is_walked(rt: HostRuntime) -> Result<(), Fail> {
-    let code = code_of(rt.alloc(), &THREE_TIMES)?;
-    assert_eq!(rt; code.calls(), 6);
-    assert_eq!(rt; code.tasks(), 3);
-    let mut cursor = Cursor::new(&code);
-    let calls = [
-        (100, submit(0)),
-        (104, CodeCall::Cancel { task: 0 }),
-        (110, submit(1)),
-        (114, CodeCall::Cancel { task: 1 }),
-        (120, submit(2)),
-        (124, CodeCall::Cancel { task: 2 }),
-    ];
-    assert!(rt; makes(&mut cursor, &code, &calls));
-    assert_eq!(rt; cursor.steps(), 9);
-
-    // Past the end it rests.
-    assert_eq!(rt; cursor.next_moment(&code), None);
-    assert_eq!(rt; cursor.steps(), 9);
-    assert!(rt; cursor.fetch(&code).is_none());
-    assert_eq!(rt; cursor.steps(), 11);
-    assert_eq!(rt; cursor.next_moment(&code), None);
-    assert!(rt; cursor.fetch(&code).is_none());
-    assert_eq!(rt; cursor.steps(), 11);
+/// Checks that a cursor and an agenda go through the calls of each code, and rest behind the last.
+fn make_their_calls(rt: &(impl AllocGlobal + Abort), rows: &[Row<'_>]) -> Result<(), Fail> {
+    for row in rows {
+        let code = code_of(rt.alloc(), row.instrs)?;
+        assert_eq!(rt; code.calls() as usize, row.calls.len(), "{}", row.name);
+        assert_eq!(rt; code.tasks(), row.tasks, "{}", row.name);
+        walks_and_rests(rt, row, &code);
+        let mut agenda = Agenda::new(code);
+        assert_eq!(rt; agenda.left(), row.calls.len(), "{}", row.name);
+        assert!(rt; goes_past(&mut agenda, row.calls), "{}", row.name);
+        assert_eq!(rt; agenda.left(), 0, "{}", row.name);
+        assert_eq!(rt; agenda.next(), None, "{}", row.name);
+    }
     Ok(())
 }
 
-#[test]
-fn a_code_may_make_no_call(rt: HostRuntime) -> Result<(), Fail> {
-    let code = code_of(rt.alloc(), &[Instr::Halt])?;
-    assert_eq!(rt; code.calls(), 0);
-    assert_eq!(rt; code.tasks(), 0);
-    let mut cursor = Cursor::new(&code);
-    assert_eq!(rt; cursor.steps(), 0);
-    assert_eq!(rt; cursor.next_moment(&code), None);
-    assert_eq!(rt; cursor.fetch(&code), None);
-    assert_eq!(rt; cursor.fetch(&code), None);
-    assert_eq!(rt; cursor.steps(), 1);
-    Ok(())
+/// Checks the steps of a cursor: past the last call it looks at none, and past the end it rests.
+fn walks_and_rests(rt: &impl Abort, row: &Row<'_>, code: &Code<Global>) {
+    let (last, end) = row.steps;
+    let mut cursor = Cursor::new(code);
+    assert_eq!(rt; cursor.steps(), 0, "{}", row.name);
+    assert!(rt; makes(&mut cursor, code, row.calls), "{}", row.name);
+    assert_eq!(rt; cursor.steps(), last, "{}", row.name);
+    assert_eq!(rt; cursor.next_moment(code), None, "{}", row.name);
+    assert_eq!(rt; cursor.steps(), last, "{}", row.name);
+    assert_eq!(rt; cursor.fetch(code), None, "{}", row.name);
+    assert_eq!(rt; cursor.steps(), end, "{}", row.name);
+    assert_eq!(rt; cursor.next_moment(code), None, "{}", row.name);
+    assert_eq!(rt; cursor.fetch(code), None, "{}", row.name);
+    assert_eq!(rt; cursor.steps(), end, "{}", row.name);
 }
 
 #[test]
-fn loops_of_one_and_of_most_iterations(rt: HostRuntime) -> Result<(), Fail> {
-    let alloc = rt.alloc();
-    let once = code_of(
-        alloc,
-        &[
-            Instr::Loop(1, LONGEST),
-            Instr::Illegal(LONGEST),
-            Instr::EndLoop,
-            Instr::Halt,
-        ],
-    )?;
-    let mut cursor = Cursor::new(&once);
-    let calls = [(LONGEST, CodeCall::Illegal { task: 0 })];
-    assert!(rt; makes(&mut cursor, &once, &calls));
-    assert!(rt; cursor.fetch(&once).is_none());
+fn codes_make_their_calls(rt: HostRuntime) -> Result<(), Fail> {
+    let rows: &[Row<'_>] = rows! {
+        "a loop of three iterations with a submission and a cancel of it", 3 tasks, steps (9, 11);
+        [Loop(3, 10), Submit(100, Timing::Once, 50), CancelHere(104, 0), EndLoop, Halt]
+        => [
+            (100, Submit { task: 0, timing: Timing::Once, delay: 50 }), (104, Cancel { task: 0 }),
+            (110, Submit { task: 1, timing: Timing::Once, delay: 50 }), (114, Cancel { task: 1 }),
+            (120, Submit { task: 2, timing: Timing::Once, delay: 50 }), (124, Cancel { task: 2 })
+        ];
 
+        "no call", 0 tasks, steps (0, 1);
+        [Halt] => [];
+
+        "calls at the first moment and at the last", 1 tasks, steps (5, 6);
+        [Illegal(0), ShutdownNow(0), ShutdownNow(LONGEST), Shutdown(LONGEST), Ask(LONGEST), Halt]
+        => [(0, Illegal { task: 0 }), (0, ShutdownNow), (LONGEST, ShutdownNow), (LONGEST, Shutdown), (LONGEST, Ask)];
+
+        "a loop of one iteration", 1 tasks, steps (2, 4);
+        [Loop(1, LONGEST), Illegal(LONGEST), EndLoop, Halt] => [(LONGEST, Illegal { task: 0 })];
+    };
+    make_their_calls(&rt, rows)
+}
+
+#[test]
+fn cancels_policies_shutdowns_and_questions_are_made(rt: HostRuntime) -> Result<(), Fail> {
+    let rows: &[Row<'_>] = rows! {
+        "cancels of each kind", 6 tasks, steps (14, 15);
+        [
+            Illegal(1), Loop(2, 10), CancelFixed(2, 0), Illegal(3), Illegal(4), CancelHere(5, 1), EndLoop,
+            CancelFixed(20, 1), Illegal(20), Halt
+        ] => [
+            (1, Illegal { task: 0 }),
+            (2, Cancel { task: 0 }), (3, Illegal { task: 1 }), (4, Illegal { task: 2 }), (5, Cancel { task: 2 }),
+            (12, Cancel { task: 0 }), (13, Illegal { task: 3 }), (14, Illegal { task: 4 }), (15, Cancel { task: 4 }),
+            (20, Cancel { task: 1 }), (20, Illegal { task: 5 })
+        ];
+
+        "policies, shutdowns and questions", 2 tasks, steps (17, 18);
+        [
+            SetPolicy(1, Which::Continue, true), Loop(2, 10), Ask(2), Illegal(3), SetPolicy(4, Which::Execute, false),
+            CancelHere(4, 0), ShutdownNow(4), EndLoop, Shutdown(14), SetPolicy(14, Which::Remove, true), Ask(15), Halt
+        ] => [
+            (1, SetPolicy { which: Which::Continue, value: true }), (2, Ask), (3, Illegal { task: 0 }),
+            (4, SetPolicy { which: Which::Execute, value: false }), (4, Cancel { task: 0 }), (4, ShutdownNow),
+            (12, Ask), (13, Illegal { task: 1 }),
+            (14, SetPolicy { which: Which::Execute, value: false }), (14, Cancel { task: 1 }), (14, ShutdownNow),
+            (14, Shutdown), (14, SetPolicy { which: Which::Remove, value: true }), (15, Ask)
+        ];
+    };
+    make_their_calls(&rt, rows)
+}
+
+#[test]
+fn loops_of_most_iterations(rt: HostRuntime) -> Result<(), Fail> {
     for every in [0u32, 1] {
-        let most = code_of(
-            alloc,
-            &[
-                Instr::Loop(65_536, u64::from(every)),
-                Instr::Illegal(0),
-                Instr::EndLoop,
-                Instr::Halt,
-            ],
-        )?;
-        assert_eq!(rt; most.calls(), 65_536);
-        assert_eq!(rt; most.tasks(), 65_536);
-        assert!(rt; submits_each(&most, 65_536, every));
+        let instrs = instrs![Loop(65_536, u64::from(every)), Illegal(0), EndLoop, Halt];
+        let code = code_of(rt.alloc(), &instrs)?;
+        assert_eq!(rt; (code.calls(), code.tasks()), (65_536, 65_536));
+        assert!(rt; submits_each(&code, 65_536, every));
     }
-    Ok(())
-}
-
-#[test]
-fn cancels_of_each_kind(rt: HostRuntime) -> Result<(), Fail> {
-    let alloc = rt.alloc();
-    let code = code_of(
-        alloc,
-        &[
-            Instr::Illegal(1),
-            Instr::Loop(2, 10),
-            Instr::CancelFixed(2, 0),
-            Instr::Illegal(3),
-            Instr::Illegal(4),
-            Instr::CancelHere(5, 1),
-            Instr::EndLoop,
-            Instr::CancelFixed(20, 1),
-            Instr::Illegal(20),
-            Instr::Halt,
-        ],
-    )?;
-    assert_eq!(rt; code.calls(), 11);
-    assert_eq!(rt; code.tasks(), 6);
-    let mut cursor = Cursor::new(&code);
-    let calls = [
-        (1, CodeCall::Illegal { task: 0 }),
-        (2, CodeCall::Cancel { task: 0 }),
-        (3, CodeCall::Illegal { task: 1 }),
-        (4, CodeCall::Illegal { task: 2 }),
-        (5, CodeCall::Cancel { task: 2 }),
-        (12, CodeCall::Cancel { task: 0 }),
-        (13, CodeCall::Illegal { task: 3 }),
-        (14, CodeCall::Illegal { task: 4 }),
-        (15, CodeCall::Cancel { task: 4 }),
-        (20, CodeCall::Cancel { task: 1 }),
-        (20, CodeCall::Illegal { task: 5 }),
-    ];
-    assert!(rt; makes(&mut cursor, &code, &calls));
-    assert!(rt; cursor.fetch(&code).is_none());
-    Ok(())
-}
-
-#[test]
-fn policies_shutdowns_and_questions_are_made(rt: HostRuntime) -> Result<(), Fail> {
-    let alloc = rt.alloc();
-    let code = code_of(
-        alloc,
-        &[
-            Instr::SetPolicy(1, Which::Continue, true),
-            Instr::Loop(2, 10),
-            Instr::Ask(2),
-            Instr::Illegal(3),
-            Instr::SetPolicy(4, Which::Execute, false),
-            Instr::CancelHere(4, 0),
-            Instr::ShutdownNow(4),
-            Instr::EndLoop,
-            Instr::Shutdown(14),
-            Instr::SetPolicy(14, Which::Remove, true),
-            Instr::Ask(15),
-            Instr::Halt,
-        ],
-    )?;
-    assert_eq!(rt; code.calls(), 14);
-    assert_eq!(rt; code.tasks(), 2);
-    let mut cursor = Cursor::new(&code);
-    let calls = [
-        (1, set(Which::Continue, true)),
-        (2, CodeCall::Ask),
-        (3, CodeCall::Illegal { task: 0 }),
-        (4, set(Which::Execute, false)),
-        (4, CodeCall::Cancel { task: 0 }),
-        (4, CodeCall::ShutdownNow),
-        (12, CodeCall::Ask),
-        (13, CodeCall::Illegal { task: 1 }),
-        (14, set(Which::Execute, false)),
-        (14, CodeCall::Cancel { task: 1 }),
-        (14, CodeCall::ShutdownNow),
-        (14, CodeCall::Shutdown),
-        (14, set(Which::Remove, true)),
-        (15, CodeCall::Ask),
-    ];
-    assert!(rt; makes(&mut cursor, &code, &calls));
-    assert!(rt; cursor.fetch(&code).is_none());
     Ok(())
 }

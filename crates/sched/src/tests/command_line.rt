@@ -1,58 +1,16 @@
 //! What the command line takes.
 
-use crate::arguments::{Asked, AskedAlone, CheckArguments, LintArguments, LiveArguments};
+use crate::arguments::Asked;
 use std::alloc::{AllocError, Global};
 use std::process::Abort;
 use std::test::Fail;
-use trace_svg::View;
 
-/// What the arguments of a command line ask for, in words, or the status with which they end the program.
-fn in_words(alloc: Global, arguments: &[String]) -> Result<String, Fail> {
+/// What the arguments of a command line ask for, as it is shown to programmers, or the status with which they end the program.
+fn shown(alloc: Global, arguments: &[String]) -> Result<String, Fail> {
     match Asked::parse(alloc, arguments) {
-        Ok(Asked::Pool(asked)) => {
-            Ok(format!(in alloc; "pool {} {} {}", asked.path, asked.workers, asked.limit)?)
-        }
-        Ok(
-            Asked::Lint(
-                LintArguments {
-                    path,
-                    events,
-                    trace,
-                    workers,
-                },
-            ),
-        ) => { Ok(format!(in alloc; "lint {path} {events:?} {trace:?} {workers:?}")?) }
-        Ok(Asked::Alone(asked)) => of_one_thread(alloc, asked),
+        Ok(asked) => Ok(format!(in alloc; "{asked:?}")?),
         Err(error) => Ok(format!(in alloc; "status {}", error.exit_code())?),
     }
-}
-
-/// What is asked of one thread, in words.
-fn of_one_thread(alloc: Global, asked: AskedAlone<'_>) -> Result<String, Fail> {
-    let words = match asked {
-        AskedAlone::Run(run) => {
-            format!(in alloc; "run {} {} {}", run.path, run.workers, run.limit)?
-        }
-        AskedAlone::Code(code) => format!(in alloc; "code {}", code.path)?,
-        AskedAlone::Check(check) => {
-            format!(in alloc; "check {} {} {}", check.path, check.trace, check.workers)?
-        }
-        AskedAlone::Migrate(old) => format!(in alloc; "migrate {}", old.path)?,
-        AskedAlone::Tasks(tasks) => format!(in alloc; "tasks {}", tasks.path)?,
-        AskedAlone::Draw(draw) => {
-            let CheckArguments {
-                path,
-                trace,
-                workers,
-            } = draw.check;
-            let View { from, to, marks } = draw.view;
-            format!(in alloc; "draw {path} {trace} {workers} {from:?} {to:?} {marks}")?
-        }
-        AskedAlone::Live(LiveArguments { workers, plan }) => {
-            format!(in alloc; "live {workers} {plan:?}")?
-        }
-    };
-    Ok(words)
 }
 
 /// The arguments of a command line, which has a space between them.
@@ -67,49 +25,68 @@ pub fn words_of(alloc: Global, line: &str) -> Result<Vec<String>, AllocError> {
 /// Checks what each command line of a table asks for. It stands behind ` | `.
 fn tells_each(rt: &(impl AllocGlobal + Abort), table: &str) -> Result<(), Fail> {
     for row in table.lines() {
-        let (words, line) = row.split_once(" | ").ok_or("no command line")?;
-        let answer = in_words(rt.alloc(), &words_of(rt.alloc(), line)?)?;
-        assert!(rt; answer.as_str() == words, "{row}: {answer}");
+        let (asked, line) = row.split_once(" | ").ok_or("no command line")?;
+        let answer = shown(rt.alloc(), &words_of(rt.alloc(), line)?)?;
+        assert!(rt; answer.as_str() == asked, "{row}: {answer}");
     }
     Ok(())
 }
 
 /// Runs: the name of the plan's file, how many workers there are, and how many events are taken.
-const TAKES_A_NAME_AND_TWO_NUMBERS: &str = "run p 64 1000000 | sched run p --workers 64
-run p 1 1000000 | sched run p --workers +1
-run q 1 4294967295 | x run --limit 4294967295 --workers=1 q
-run -r 10 1 | sched run --limit=1 --workers=010 -- -r";
+const TAKES_A_NAME_AND_TWO_NUMBERS: &str =
+    "Alone(Run(RunArguments { path: \"p\", workers: 64, limit: 1000000 })) | sched run p --workers 64
+Alone(Run(RunArguments { path: \"p\", workers: 1, limit: 1000000 })) | sched run p --workers +1
+Alone(Run(RunArguments { path: \"q\", workers: 1, limit: 4294967295 })) | x run --limit 4294967295 --workers=1 q
+Alone(Run(RunArguments { path: \"-r\", workers: 10, limit: 1 })) | sched run --limit=1 --workers=010 -- -r
+Alone(Run(RunArguments { path: \"p\", workers: 2, limit: 3 })) | sched run p --workers 2 --limit 3";
 
 /// Runs by a pool.
-const TAKES_A_NAME_AND_TWO_NUMBERS_FOR_A_POOL: &str = "pool p 64 1000000 | sched pool p --workers 64
-pool q 1 4294967295 | x pool --limit 4294967295 --workers=1 q";
+const TAKES_A_NAME_AND_TWO_NUMBERS_FOR_A_POOL: &str =
+    "Pool(RunArguments { path: \"p\", workers: 64, limit: 1000000 }) | sched pool p --workers 64
+Pool(RunArguments { path: \"q\", workers: 1, limit: 4294967295 }) | x pool --limit 4294967295 --workers=1 q
+Pool(RunArguments { path: \"p\", workers: 2, limit: 3 }) | sched pool p --workers 2 --limit 3";
 
 /// What takes the names of files alone, and a check.
-const TAKES_NAMES: &str = "code p | sched code p
-check p t 64 | sched check --workers 64 p t
-tasks p | sched tasks p
-migrate p | sched migrate p
-migrate -p | sched migrate -- -p";
+const TAKES_NAMES: &str = "Alone(Code(PlanArguments { path: \"p\" })) | sched code p
+Alone(Check(CheckArguments { path: \"p\", trace: \"t\", workers: 64 })) | sched check --workers 64 p t
+Alone(Tasks(PlanArguments { path: \"p\" })) | sched tasks p
+Alone(Migrate(PlanArguments { path: \"p\" })) | sched migrate p
+Alone(Migrate(PlanArguments { path: \"-p\" })) | sched migrate -- -p
+Alone(Check(CheckArguments { path: \"p\", trace: \"t\", workers: 2 })) | sched check p t --workers 2";
 
 /// Pictures: the names of the files, how many workers there are, from where to where time goes, and how many marks there may be.
 const TAKES_TWO_NAMES_AND_FOUR_NUMBERS_FOR_A_PICTURE: &str =
-    "draw p t 64 None None 2000 | sched draw --workers 64 p t
-draw p t 1 Some(3) None 2000 | sched draw p t --workers 1 --from 3
-draw p t 1 None Some(18446744073709551615) 2000 | sched draw p t --to 18446744073709551615 --workers 1
-draw p t 2 Some(18446744073709551615) Some(0) 18446744073709551615 | sched draw p --from=18446744073709551615 t --marks=18446744073709551615 --to=0 --workers=2
-draw p -t 1 None None 0 | sched draw --marks 0 --workers 1 -- p -t";
+    "Alone(Draw(DrawArguments { check: CheckArguments { path: \"p\", trace: \"t\", workers: 64 }, \
+  view: View { from: None, to: None, marks: 2000 } })) | sched draw --workers 64 p t
+Alone(Draw(DrawArguments { check: CheckArguments { path: \"p\", trace: \"t\", workers: 1 }, \
+  view: View { from: Some(3), to: None, marks: 2000 } })) | sched draw p t --workers 1 --from 3
+Alone(Draw(DrawArguments { check: CheckArguments { path: \"p\", trace: \"t\", workers: 1 }, \
+  view: View { from: None, to: Some(18446744073709551615), marks: 2000 } })) \
+  | sched draw p t --to 18446744073709551615 --workers 1
+Alone(Draw(DrawArguments { check: CheckArguments { path: \"p\", trace: \"t\", workers: 2 }, \
+  view: View { from: Some(18446744073709551615), to: Some(0), marks: 18446744073709551615 } })) \
+  | sched draw p --from=18446744073709551615 t --marks=18446744073709551615 --to=0 --workers=2
+Alone(Draw(DrawArguments { check: CheckArguments { path: \"p\", trace: \"-t\", workers: 1 }, \
+  view: View { from: None, to: None, marks: 0 } })) | sched draw --marks 0 --workers 1 -- p -t
+Alone(Draw(DrawArguments { check: CheckArguments { path: \"p\", trace: \"t\", workers: 2 }, \
+  view: View { from: None, to: Some(3), marks: 4 } })) | sched draw p t --workers 2 --to 3 --marks 4";
 
 /// Live runs: how many workers there are, and the name of the file of their plan.
-const TAKES_A_NUMBER_AND_MAYBE_A_NAME_FOR_A_LIVE_RUN: &str = "live 64 None | sched live --workers 64
-live 1 Some(\"p\") | sched live --plan p --workers=1
-live 2 Some(\"-p\") | sched live --workers 2 --plan=-p
-live 3 Some(\"\") | sched live --plan= --workers 3";
+const TAKES_A_NUMBER_AND_MAYBE_A_NAME_FOR_A_LIVE_RUN: &str =
+    "Alone(Live(LiveArguments { workers: 64, plan: None })) | sched live --workers 64
+Alone(Live(LiveArguments { workers: 1, plan: Some(\"p\") })) | sched live --plan p --workers=1
+Alone(Live(LiveArguments { workers: 2, plan: Some(\"-p\") })) | sched live --workers 2 --plan=-p
+Alone(Live(LiveArguments { workers: 3, plan: Some(\"\") })) | sched live --plan= --workers 3
+Alone(Live(LiveArguments { workers: 2, plan: Some(\"p\") })) | sched live --workers 2 --plan p";
 
 /// Lints: the name of the plan's file, those of the events' and of the trace's, and how many workers there are.
-const TAKES_A_NAME_AND_MAYBE_OTHERS_FOR_A_LINT: &str = "lint p None None None | sched lint p
-lint p Some(\"e\") None None | sched lint p --events e
-lint p None Some(\"t\") Some(64) | sched lint p --trace t --workers 64
-lint -p Some(\"e\") Some(\"-\") Some(1) | sched lint --workers=1 --trace=- --events e -- -p";
+const TAKES_A_NAME_AND_MAYBE_OTHERS_FOR_A_LINT: &str =
+    "Lint(LintArguments { path: \"p\", events: None, trace: None, workers: None }) | sched lint p
+Lint(LintArguments { path: \"p\", events: Some(\"e\"), trace: None, workers: None }) | sched lint p --events e
+Lint(LintArguments { path: \"p\", events: None, trace: Some(\"t\"), workers: Some(64) }) | sched lint p --trace t --workers 64
+Lint(LintArguments { path: \"-p\", events: Some(\"e\"), trace: Some(\"-\"), workers: Some(1) }) \
+  | sched lint --workers=1 --trace=- --events e -- -p
+Lint(LintArguments { path: \"p\", events: None, trace: Some(\"t\"), workers: Some(2) }) | sched lint p --trace t --workers 2";
 
 /// Command lines that the program ends at.
 const REFUSES_WHAT_IS_MISSING_TOO_MUCH_OR_OUT_OF_RANGE: &str = "status 2 | sched check p --workers 1
@@ -183,31 +160,6 @@ fn takes_each_command_line(rt: HostRuntime) -> Result<(), Fail> {
         TAKES_NAMES,
     ] {
         tells_each(&rt, table)?;
-    }
-    Ok(())
-}
-
-/// How what is asked for is shown to programmers.
-const SHOWN: &str =
-    "Alone(Run(RunArguments { path: \"p\", workers: 2, limit: 3 })) | sched run p --workers 2 --limit 3
-Pool(RunArguments { path: \"p\", workers: 2, limit: 3 }) | sched pool p --workers 2 --limit 3
-Alone(Code(PlanArguments { path: \"p\" })) | sched code p
-Alone(Check(CheckArguments { path: \"p\", trace: \"t\", workers: 2 })) | sched check p t --workers 2
-Alone(Draw(DrawArguments { check: CheckArguments { path: \"p\", trace: \"t\", workers: 2 }, view: View { from: None, to: Some(3), marks: 4 } })) | sched draw p t --workers 2 --to 3 --marks 4
-Alone(Live(LiveArguments { workers: 2, plan: Some(\"p\") })) | sched live --workers 2 --plan p
-Lint(LintArguments { path: \"p\", events: None, trace: Some(\"t\"), workers: Some(2) }) | sched lint p --trace t --workers 2
-Alone(Migrate(PlanArguments { path: \"p\" })) | sched migrate p";
-
-#[test]
-fn shows_what_is_asked_for_to_programmers(rt: HostRuntime) -> Result<(), Fail> {
-    for row in SHOWN.lines() {
-        let (text, line) = row.split_once(" | ").ok_or("no command line")?;
-        let arguments = words_of(rt.alloc(), line)?;
-        let Ok(asked) = Asked::parse(rt.alloc(), &arguments) else {
-            return Err("a command line is refused".into());
-        };
-        let shown = format!(in rt.alloc(); "{asked:?}")?;
-        assert!(rt; shown.as_str() == text, "{row}: {shown}");
     }
     Ok(())
 }

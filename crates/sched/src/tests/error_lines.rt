@@ -43,92 +43,64 @@ fn of_plan(kind: PlanFaultKind) -> ProgramError {
     }))
 }
 
-/// The kinds of faults of a plan, in the order of `KIND_NAMES`.
-const KINDS: [PlanFaultKind; 16] = [
-    PlanFaultKind::TooLong,
-    PlanFaultKind::Toml,
-    PlanFaultKind::Version,
-    PlanFaultKind::UnknownKey,
-    PlanFaultKind::Missing,
-    PlanFaultKind::WrongType,
-    PlanFaultKind::BadUnit,
-    PlanFaultKind::BadTimes,
-    PlanFaultKind::TooMany,
-    PlanFaultKind::BadName,
-    PlanFaultKind::DuplicateName,
-    PlanFaultKind::UnknownName,
-    PlanFaultKind::Ambiguous,
-    PlanFaultKind::Negative,
-    PlanFaultKind::TooLarge,
-    PlanFaultKind::OutOfOrder,
-];
+/// Kinds of faults of a plan, each with its name.
+macro_rules! named {
+    ($($name:ident)+) => {
+        [$((PlanFaultKind::$name, stringify!($name))),+]
+    };
+}
 
-const KIND_NAMES: &str =
-    "TooLong Toml Version UnknownKey Missing WrongType BadUnit BadTimes TooMany \
-     BadName DuplicateName UnknownName Ambiguous Negative TooLarge OutOfOrder";
+const KINDS: [(PlanFaultKind, &str); 16] = named! {
+    TooLong Toml Version UnknownKey Missing WrongType BadUnit BadTimes TooMany
+    BadName DuplicateName UnknownName Ambiguous Negative TooLarge OutOfOrder
+};
 
 #[test]
 fn tells_each_kind_of_plan_fault(rt: HostRuntime) -> Result<(), Fail> {
-    assert_eq!(rt; KINDS.len(), KIND_NAMES.split(' ').count());
-    for (kind, name) in KINDS.iter().zip(KIND_NAMES.split(' ')) {
+    for (kind, name) in KINDS {
         let line = format!(in rt.alloc(); "sched: plan: {name} block 3 call 2\n")?;
-        is_told(&rt, of_plan(*kind), 1, line.as_str());
+        is_told(&rt, of_plan(kind), 1, line.as_str());
     }
     let memory = of_plan(PlanFaultKind::Memory);
     is_told(&rt, memory, 1, "sched: out of memory\n");
     Ok(())
 }
 
-/// The ends of a run, in the order of `LINES_OF_RUNS`.
-const RUNS: [RunError; 8] = [
-    RunError::EventLine(4_294_967_296),
-    RunError::Full,
-    RunError::Read,
-    RunError::Write,
-    RunError::Lost,
-    RunError::Memory,
-    RunError::Workers,
-    RunError::Limit,
+/// The ends of a run, each with its line.
+const RUNS: [(RunError, &str); 8] = [
+    (RunError::EventLine(4_294_967_296), "event line 4294967296"),
+    (RunError::Full, "full"),
+    (RunError::Read, "read fault"),
+    (RunError::Write, "write fault"),
+    (RunError::Lost, "lost"),
+    (RunError::Memory, "out of memory"),
+    (RunError::Workers, "the number of workers is not 1 to 64"),
+    (RunError::Limit, "the limit on events is 0"),
 ];
 
-const LINES_OF_RUNS: &str = "event line 4294967296
-full
-read fault
-write fault
-lost
-out of memory
-the number of workers is not 1 to 64
-the limit on events is 0";
-
-/// Why there is no picture, in the order of `LINES_OF_PICTURES`.
-const PICTURES: [DrawError; 5] = [
-    DrawError::Workers,
-    DrawError::Window,
-    DrawError::Crowded { marks: 2_001 },
-    DrawError::Write,
-    DrawError::Memory,
+/// Why there is no picture, each with its line.
+const PICTURES: [(DrawError, &str); 5] = [
+    (DrawError::Workers, "the number of workers is not 1 to 64"),
+    (DrawError::Window, "the picture ends before it begins"),
+    (
+        DrawError::Crowded { marks: 2_001 },
+        "2001 marks or bars are too many: --from and --to narrow the picture",
+    ),
+    (DrawError::Write, "write fault"),
+    (DrawError::Memory, "out of memory"),
 ];
 
-const LINES_OF_PICTURES: &str = "the number of workers is not 1 to 64
-the picture ends before it begins
-2001 marks or bars are too many: --from and --to narrow the picture
-write fault
-out of memory";
-
-/// Faults of files, and the greatest number, in the order of `LINES_OF_FILES`.
-const FILES: [ProgramError; 5] = [
-    ProgramError::PlanFile,
-    ProgramError::PlanUnwritten,
-    ProgramError::TraceFile,
-    ProgramError::TraceTooLong,
-    ProgramError::Crowded(u64::MAX),
+/// Faults of files, and the greatest number, each with its line.
+const FILES: [(ProgramError, &str); 5] = [
+    (ProgramError::PlanFile, "plan file not read"),
+    (ProgramError::PlanUnwritten, "plan file not written"),
+    (ProgramError::TraceFile, "trace file not read"),
+    (ProgramError::TraceTooLong, "trace file too long"),
+    (
+        ProgramError::Crowded(u64::MAX),
+        "18446744073709551615 marks or bars are too many: --from and --to narrow the picture",
+    ),
 ];
-
-const LINES_OF_FILES: &str = "plan file not read
-plan file not written
-trace file not read
-trace file too long
-18446744073709551615 marks or bars are too many: --from and --to narrow the picture";
 
 /// Checks that a fault is told by a line, which `sched: ` begins, with status 1.
 fn is_line(rt: &(impl AllocGlobal + Abort), fault: ProgramError, line: &str) -> Result<(), Fail> {
@@ -139,19 +111,14 @@ fn is_line(rt: &(impl AllocGlobal + Abort), fault: ProgramError, line: &str) -> 
 
 #[test]
 fn tells_each_error(rt: HostRuntime) -> Result<(), Fail> {
-    let lines = [LINES_OF_RUNS, LINES_OF_PICTURES, LINES_OF_FILES];
-    assert_eq!(rt;
-        [RUNS.len(), PICTURES.len(), FILES.len()],
-        lines.map(|lines| lines.lines().count())
-    );
-    for (error, line) in RUNS.iter().zip(LINES_OF_RUNS.lines()) {
-        is_line(&rt, ProgramError::from(*error), line)?;
+    for (error, line) in RUNS {
+        is_line(&rt, ProgramError::from(error), line)?;
     }
-    for (error, line) in PICTURES.iter().zip(LINES_OF_PICTURES.lines()) {
-        is_line(&rt, ProgramError::from(*error), line)?;
+    for (error, line) in PICTURES {
+        is_line(&rt, ProgramError::from(error), line)?;
     }
-    for (error, line) in FILES.iter().zip(LINES_OF_FILES.lines()) {
-        is_line(&rt, *error, line)?;
+    for (error, line) in FILES {
+        is_line(&rt, error, line)?;
     }
     Ok(())
 }
@@ -240,34 +207,25 @@ fn tells_an_error_by_its_status_where_standard_error_is_at_fault(rt: HostRuntime
     }
 }
 
-/// Errors, in the order of `SHOWN`.
-const ERRORS: [ProgramError; 6] = [
-    ProgramError::LintOptions,
-    ProgramError::TraceTooLong,
-    ProgramError::PlanUnwritten,
-    ProgramError::EndsFirst,
-    ProgramError::Crowded(3),
-    ProgramError::Run(RunError::EventLine(9)),
-];
-
-/// How errors are shown to programmers.
-const SHOWN: &str = "LintOptions
-TraceTooLong
-PlanUnwritten
-EndsFirst
-Crowded(3)
-Run(EventLine(9))";
-
 #[test]
 fn shows_errors_to_programmers(rt: HostRuntime) -> Result<(), Fail> {
-    assert_eq!(rt; ERRORS.len(), SHOWN.lines().count());
-    for (error, text) in ERRORS.iter().zip(SHOWN.lines()) {
+    for (error, text) in [
+        (ProgramError::LintOptions, "LintOptions"),
+        (ProgramError::TraceTooLong, "TraceTooLong"),
+        (ProgramError::PlanUnwritten, "PlanUnwritten"),
+        (ProgramError::EndsFirst, "EndsFirst"),
+        (ProgramError::Crowded(3), "Crowded(3)"),
+        (
+            ProgramError::Run(RunError::EventLine(9)),
+            "Run(EventLine(9))",
+        ),
+        (
+            of_plan(PlanFaultKind::BadName),
+            "Run(Plan(PlanFault { kind: BadName, block: 3, call: 2 }))",
+        ),
+    ] {
         let shown = format!(in rt.alloc(); "{error:?}")?;
         assert!(rt; shown.as_str() == text, "{shown}");
     }
-    let of_plan = of_plan(PlanFaultKind::BadName);
-    let shown = format!(in rt.alloc(); "{of_plan:?}")?;
-    let text = "Run(Plan(PlanFault { kind: BadName, block: 3, call: 2 }))";
-    assert!(rt; shown.as_str() == text, "{shown}");
     Ok(())
 }

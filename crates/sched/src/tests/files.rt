@@ -1,7 +1,7 @@
 //! How much of a plan file is read, and what a fault of it comes to.
 
-use super::world::{Given, file};
-use super::{ONE_DELAY, ends_given, given};
+use super::world::{Given, file, run_in};
+use super::{ONE_DELAY, ends, given};
 use crate::error::ProgramError;
 use crate::files::{MOST_OF_PLAN, MOST_OF_TRACE, plan_front, plan_text, trace_text, whole_trace};
 use byte_ends::{Pieces, Reading};
@@ -10,9 +10,6 @@ use std::alloc::Global;
 use std::fs;
 use std::io::ErrorKind;
 use std::test::Fail;
-
-/// The command line of a run of `plan.toml`.
-const RUN: &str = "sched run plan.toml --workers 1";
 
 #[test]
 fn reads_one_byte_more_than_a_plan_may_have(rt: HostRuntime) -> Result<(), Fail> {
@@ -42,9 +39,9 @@ fn tells_a_file_that_is_too_long(rt: HostRuntime) -> Result<(), Fail> {
         let bytes = " ".repeat(rt.alloc(), length)?;
         let given = Given {
             plan: file(bytes.as_str(), false),
-            ..given(RUN, "")
+            ..given("sched run plan.toml --workers 1", "")
         };
-        ends_given(&rt, given, 1, "", line);
+        ends(&rt, line, &run_in(&rt, given), 1, "", line);
     }
     Ok(())
 }
@@ -55,11 +52,6 @@ fn does_not_take_a_broken_file_for_its_front(rt: HostRuntime) {
     assert!(rt;
         plan_front(rt.alloc(), &mut Reading::new(broken)).err() == Some(ProgramError::PlanFile)
     );
-    let given = Given {
-        plan: broken,
-        ..given(RUN, "")
-    };
-    ends_given(&rt, given, 1, "", "sched: plan file not read\n");
 }
 
 /// A file that is at fault behind the bytes that are read of it.
@@ -82,8 +74,6 @@ fn does_not_take_a_missing_file_for_an_empty_one(rt: HostRuntime) {
         .err()
             == Some(ProgramError::PlanFile)
     );
-    let given = given("sched run another.toml --workers 1", "");
-    ends_given(&rt, given, 1, "", "sched: plan file not read\n");
 }
 
 /// That a longer trace than the longest is refused is a clause of [`whole_trace`]; to read so much takes too long here.

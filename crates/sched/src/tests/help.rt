@@ -31,7 +31,9 @@ fn shows<R: AllocGlobal + Abort + Threads + Wait + Sync>(
     Ok(())
 }
 
-const HELP_NAMES_THE_COMMAND_AND_THE_STATUSES: &str = "sched --help
+/// Each help: its command line, which `$ ` begins, and its parts.
+const HELPS: &str = "
+$ sched --help
 Usage: sched <COMMAND>⏎
   run      Runs a plan over the events on standard input
   pool     Runs a plan by threads through the clocks on standard input
@@ -47,12 +49,12 @@ Usage: sched <COMMAND>⏎
 'sched lint' why one is refused.
   0  done⏎
   1  a fault, told by a line on standard error, or a trace that breaks⏎
-  2  a fault of the command line⏎";
+  2  a fault of the command line⏎
 
-const VERSION_NAMES_THE_TOOLCHAIN: &str = "sched --version
-sched 0.1.0 (rattle-kit-13f logic␣";
+$ sched --version
+sched 0.1.0 (rattle-kit-13f logic␣
 
-const HELP_OF_LINT_NAMES_WHAT_IS_TOLD: &str = "sched lint --help
+$ sched lint --help
 Usage: sched lint [OPTIONS] <PLAN>⏎
       --events <FILE>  The file of events that is looked at too⏎
       --trace <FILE>   The file of a trace that is looked at too, with --workers⏎
@@ -60,9 +62,9 @@ Usage: sched lint [OPTIONS] <PLAN>⏎
   plan.toml:12: block 2, call 1, op = \"sched\": no such op; one of
   0  nothing is wrong: 'fine' was printed⏎
   1  something is wrong
-  2  a fault of the command line";
+  2  a fault of the command line
 
-const HELP_OF_POOL_NAMES_ITS_INPUT_AND_ITS_FAULTS: &str = "sched pool --help
+$ sched pool --help
 Usage: sched pool [OPTIONS] --workers <N> <PLAN>⏎
 How many workers there are, 1 to 64
 How many events are taken at most, 1 to 4,294,967,295
@@ -78,9 +80,9 @@ sched: read fault⏎
 sched: write fault⏎
 sched: lost
 sched: out of memory⏎
-  2  a fault of the command line⏎";
+  2  a fault of the command line⏎
 
-const HELP_OF_CODE_NAMES_EACH_INSTRUCTION: &str = "sched code --help
+$ sched code --help
 Usage: sched code <PLAN>⏎
 submit O schedule D
 submit O rate F P
@@ -95,9 +97,9 @@ ask O
 loop N every E
 endloop
 halt
-  1  a fault, told by one of these lines";
+  1  a fault, told by one of these lines
 
-const HELP_OF_TASKS_NAMES_WHAT_A_LINE_HAS: &str = "sched tasks --help
+$ sched tasks --help
 Usage: sched tasks <PLAN>⏎
   K NAME KIND submitted M due D⏎
   K NAME KIND submitted M refused illegal⏎
@@ -107,17 +109,17 @@ sched: plan file not read⏎
 sched: plan: KIND block B call C
 sched: write fault⏎
 sched: out of memory⏎
-  2  a fault of the command line⏎";
+  2  a fault of the command line⏎
 
-const HELP_OF_CHECK_NAMES_WHAT_IS_FOUND: &str = "sched check --help
+$ sched check --help
 Usage: sched check --workers <N> <PLAN> <TRACE>⏎
 at most 67,108,864 bytes
   conforms  the trace is that of some events
   breaks N  it is none
 sched: trace file not read
-sched: trace file too long";
+sched: trace file too long
 
-const HELP_OF_DRAW_NAMES_WHAT_IS_SHOWN_AND_ITS_FAULTS: &str = "sched draw --help
+$ sched draw --help
 Usage: sched draw [OPTIONS] --workers <N> <PLAN> <TRACE>⏎
 How many workers there are, 1 to 64
 The first moment of the picture, in nanoseconds
@@ -138,9 +140,9 @@ sched: the picture ends before it begins⏎
 sched: N marks or bars are too many: --from and --to narrow the picture⏎
 sched: write fault⏎
 sched: out of memory⏎
-  2  a fault of the command line⏎";
+  2  a fault of the command line⏎
 
-const HELP_OF_LIVE_NAMES_ITS_LINES_AND_ITS_FAULTS: &str = "sched live --help
+$ sched live --help
 Usage: sched live [OPTIONS] --workers <N>⏎
 How many workers there are, 1 to 64
 --plan <FILE>
@@ -169,9 +171,9 @@ more than 65,536 calls were made⏎
 sched: plan: TooLong block 0 call 0⏎
 sched: plan file not written⏎
 FILE is not touched at a fault of the plan.⏎
-  2  a fault of the command line⏎";
+  2  a fault of the command line⏎
 
-const HELP_OF_MIGRATE_NAMES_WHAT_IS_PRINTED_AND_REFUSED: &str = "sched migrate --help
+$ sched migrate --help
 Usage: sched migrate <PLAN>⏎
 The plan is one of version 1, and it is printed as one of version 2
 A plan of version 2 is refused as 'Version'
@@ -182,9 +184,9 @@ sched: plan file not read⏎
 sched: plan: KIND block B call C
 sched: write fault⏎
 sched: out of memory⏎
-  2  a fault of the command line⏎";
+  2  a fault of the command line⏎
 
-const HELP_OF_RUN_NAMES_FORMS_LIMITS_AND_STATUSES: &str = "sched run --help
+$ sched run --help
 Usage: sched run [OPTIONS] --workers <N> <PLAN>⏎
 How many workers there are, 1 to 64
 How many events are taken at most, 1 to 4,294,967,295
@@ -226,26 +228,12 @@ sched: full
 sched: read fault⏎
 sched: write fault⏎
 sched: out of memory⏎
-  2  a fault of the command line⏎";
-
-/// Each help: its command line, and its parts.
-const HELPS: [&str; 11] = [
-    HELP_NAMES_THE_COMMAND_AND_THE_STATUSES,
-    VERSION_NAMES_THE_TOOLCHAIN,
-    HELP_OF_LINT_NAMES_WHAT_IS_TOLD,
-    HELP_OF_POOL_NAMES_ITS_INPUT_AND_ITS_FAULTS,
-    HELP_OF_CODE_NAMES_EACH_INSTRUCTION,
-    HELP_OF_TASKS_NAMES_WHAT_A_LINE_HAS,
-    HELP_OF_CHECK_NAMES_WHAT_IS_FOUND,
-    HELP_OF_DRAW_NAMES_WHAT_IS_SHOWN_AND_ITS_FAULTS,
-    HELP_OF_LIVE_NAMES_ITS_LINES_AND_ITS_FAULTS,
-    HELP_OF_MIGRATE_NAMES_WHAT_IS_PRINTED_AND_REFUSED,
-    HELP_OF_RUN_NAMES_FORMS_LIMITS_AND_STATUSES,
-];
+  2  a fault of the command line⏎
+";
 
 #[test]
 fn each_help_has_its_parts(rt: HostRuntime) -> Result<(), Fail> {
-    for help in HELPS {
+    for help in HELPS.split("\n$ ").skip(1) {
         let (line, parts) = help.split_once("\n").ok_or("no parts")?;
         shows(&rt, line, 0, parts)?;
     }

@@ -12,91 +12,50 @@ use std::io::ErrorKind;
 use std::process::Abort;
 use std::test::Fail;
 
-pub const ANSWERS_CALLS_BESIDE_EVENTS: &str = "# answers calls beside events
+/// Live runs, without the file of a plan and with one.
+pub const SESSIONS: &str = "# ANSWERS_CALLS_BESIDE_EVENTS
 $ sched live --workers 1
-< call schedule 5
-< clock 5
-< start 0
-< call rate 0 3
-< clock 6
-< finish 0 ok 7
-< start 0
-< call cancel 1
+< call schedule 5⏎clock 5⏎start 0⏎call rate 0 3⏎clock 6⏎finish 0 ok 7⏎start 0⏎call cancel 1
 > 0 submit 0 schedule due 5
-> 5 clock
-> 5 start 0 task 0 run 0 due 5
-> 6 submit 1 rate due 6
-> 6 clock
-> 6 finish 0 task 0 run 0 done 7
-> 6 start 0 task 1 run 0 due 6
+> 5 clock⏎5 start 0 task 0 run 0 due 5
+> 6 submit 1 rate due 6⏎6 clock⏎6 finish 0 task 0 run 0 done 7⏎6 start 0 task 1 run 0 due 6
 > 7 cancel 1 yes
 $ sched live --workers 1
 $ sched live --workers=3
-< start 2
-< start 3
-< call ask
-> 0 start 2 idle
-> 0 error no worker
-> 0 ask queue 0 running 0 shutdown no terminated no
-";
+< start 2⏎start 3⏎call ask
+> 0 start 2 idle⏎0 error no worker⏎0 ask queue 0 running 0 shutdown no terminated no
 
-pub const TELLS_FAULTS_OF_THE_LINES_AND_OF_STANDARD_OUTPUT: &str =
-    "# tells faults of the lines and of standard output
+# TELLS_FAULTS_OF_THE_LINES_AND_OF_STANDARD_OUTPUT
 $ sched live --workers 1
-< call execute
-< call stop
+< call execute⏎call stop
 > 0 submit 0 schedule due 0
 ! sched: event line 2
 $ sched live --workers 1
 with closed output
-< call execute
-< call stop
+< call execute⏎call stop
 ! sched: write fault
 $ sched live --workers 1
 < call cancel 0
 ! sched: event line 1
-";
 
-/// The last plan is left after a fault of the run, whose line is told.
-pub const LEAVES_THE_PLAN_OF_THE_CALLS: &str =
-    "# leaves the plan of the calls, also of those before a fault
+# LEAVES_THE_PLAN_OF_THE_CALLS, also of those before a fault of the run, whose line is told
 $ sched live --workers 1 --plan calls.toml
 with new file
 file version = 2
 $ sched live --workers 1 --plan calls.toml
 with new file
-< call schedule 5
-< clock 5
+< call schedule 5⏎clock 5
 > 0 submit 0 schedule due 5
 > 5 clock
-file version = 2
-file
-file [[block]]
-file
-file [[block.call]]
-file delay = 5
-file delay_unit = \"ns\"
-file name = \"t0\"
-file op = \"schedule\"
+file version = 2⏎⏎[[block]]⏎⏎[[block.call]]⏎delay = 5⏎delay_unit = \"ns\"⏎name = \"t0\"⏎op = \"schedule\"
 $ sched live --workers 1 --plan calls.toml
 with new file
-< call schedule 5
-< stop
+< call schedule 5⏎stop
 > 0 submit 0 schedule due 5
 ! sched: event line 2
-file version = 2
-file
-file [[block]]
-file
-file [[block.call]]
-file delay = 5
-file delay_unit = \"ns\"
-file name = \"t0\"
-file op = \"schedule\"
-";
+file version = 2⏎⏎[[block]]⏎⏎[[block.call]]⏎delay = 5⏎delay_unit = \"ns\"⏎name = \"t0\"⏎op = \"schedule\"
 
-/// A file that can't be created, or that takes nothing.
-pub const TELLS_A_PLAN_THAT_IS_NOT_WRITTEN: &str = "# tells a plan that is not written
+# TELLS_A_PLAN_THAT_IS_NOT_WRITTEN: its file can't be created, or takes nothing
 $ sched live --workers 1 --plan calls.toml
 < start 0
 > 0 start 0 idle

@@ -1,7 +1,7 @@
 //! Memory: what a command takes comes back, also where it is refused some.
 
-use super::ONE_DELAY;
 use super::command_line::words_of;
+use super::{ONE_DELAY, TRACE};
 use crate::arguments::{Asked, AskedAlone};
 use crate::error::ProgramError;
 use crate::serving::answer_alone;
@@ -13,11 +13,7 @@ use std::io;
 use std::process::Abort;
 use std::test::Fail;
 
-/// A trace of the plan of one delayed task.
-const TRACE: &str = "0 submit 0 schedule due 5\n5 clock\n5 start 0 task 0 run 0 due 5\n7 clock\n\
-7 finish 0 task 0 run 0 done 7\n";
-
-/// The same one, whose third line has a worker that is not there.
+/// The same trace, whose third line has a worker that is not there.
 const BREAKS: &str = "0 submit 0 schedule due 5\n5 clock\n5 start 1 task 0 run 0 due 5\n";
 
 /// Events of which the trace tells.

@@ -1,14 +1,10 @@
 //! Pictures of a small trace.
 use super::world::{Given, file, run_in};
-use super::{ends, given};
+use super::{TRACE, ends, given};
 use std::process::{Abort, ExitCode};
 use std::sync::Wait;
 use std::test::Fail;
 use std::thread::Threads;
-
-/// A trace of the plan of one delayed task.
-const TRACE: &str = "0 submit 0 schedule due 5\n5 clock\n5 start 0 task 0 run 0 due 5\n7 clock\n\
-7 finish 0 task 0 run 0 done 7\n";
 
 /// What stands in its picture, in this order.
 const PARTS: [&str; 8] = [
@@ -83,71 +79,48 @@ fn draws_the_window_and_the_workers_that_are_asked_for(rt: HostRuntime) -> Resul
     Ok(())
 }
 
-/// The third line of the trace has a worker that is not there.
-pub const TELLS_WHERE_A_TRACE_THAT_IS_TO_BE_DRAWN_BREAKS: &str =
-    "# tells where a trace that is to be drawn breaks
+/// Pictures that are not drawn.
+pub const SESSIONS: &str =
+    "# TELLS_WHERE_A_TRACE_THAT_IS_TO_BE_DRAWN_BREAKS: the third line has a worker that is not there
 $ sched draw plan.toml trace.txt --workers 1
-trace 0 submit 0 schedule due 5
-trace 5 clock
-trace 5 start 1 task 0 run 0 due 5
+trace 0 submit 0 schedule due 5⏎5 clock⏎5 start 1 task 0 run 0 due 5
 > breaks 3
 = 1
 $ sched draw plan.toml trace.txt --workers 1
 with closed output
-trace 0 submit 0 schedule due 5
-trace 5 clock
-trace 5 start 1 task 0 run 0 due 5
+trace 0 submit 0 schedule due 5⏎5 clock⏎5 start 1 task 0 run 0 due 5
 ! sched: write fault
 $ sched draw plan.toml trace.txt --workers 1 --marks 0
-trace 0 submit 0 schedule due 5
-trace 5 clock
-trace 5 start 1 task 0 run 0 due 5
+trace 0 submit 0 schedule due 5⏎5 clock⏎5 start 1 task 0 run 0 due 5
 > breaks 3
 = 1
-";
 
-pub const TELLS_FAULTS_OF_A_PICTURE: &str = "# tells faults of a picture
+# TELLS_FAULTS_OF_A_PICTURE
 $ sched draw plan.toml trace.txt --workers 1 --marks 2
-trace 0 submit 0 schedule due 5
-trace 5 clock
-trace 5 start 0 task 0 run 0 due 5
-trace 7 clock
-trace 7 finish 0 task 0 run 0 done 7
+trace 0 submit 0 schedule due 5⏎5 clock⏎5 start 0 task 0 run 0 due 5⏎7 clock⏎7 finish 0 task 0 run 0 done 7
 ! sched: 3 marks or bars are too many: --from and --to narrow the picture
 $ sched draw plan.toml trace.txt --workers 1 --from 8
-trace 0 submit 0 schedule due 5
-trace 5 clock
-trace 5 start 0 task 0 run 0 due 5
-trace 7 clock
-trace 7 finish 0 task 0 run 0 done 7
+trace 0 submit 0 schedule due 5⏎5 clock⏎5 start 0 task 0 run 0 due 5⏎7 clock⏎7 finish 0 task 0 run 0 done 7
 ! sched: the picture ends before it begins
 $ sched draw plan.toml trace.txt --workers 1
 with closed output
-trace 0 submit 0 schedule due 5
-trace 5 clock
-trace 5 start 0 task 0 run 0 due 5
-trace 7 clock
-trace 7 finish 0 task 0 run 0 done 7
+trace 0 submit 0 schedule due 5⏎5 clock⏎5 start 0 task 0 run 0 due 5⏎7 clock⏎7 finish 0 task 0 run 0 done 7
 ! sched: write fault
-";
 
-pub const TELLS_FAULTS_OF_THE_FILES_OF_A_PICTURE: &str = "# tells faults of the files of a picture
+# TELLS_FAULTS_OF_THE_FILES_OF_A_PICTURE
 $ sched draw plan.toml trace.txt --workers 1
 with broken trace
-trace 0 submit 0 schedule due 5
-trace 5 clock
+trace 0 submit 0 schedule due 5⏎5 clock
 ! sched: trace file not read
 $ sched draw plan.toml trace.txt --workers 1
 with broken trace
 plan version = 3
-trace 0 submit 0 schedule due 5
-trace 5 clock
+trace 0 submit 0 schedule due 5⏎5 clock
 ! sched: plan: Version block 0 call 0
 $ sched draw other.toml trace.txt --workers 1
 with broken trace
 plan version = 3
-trace 0 submit 0 schedule due 5
-trace 5 clock
+trace 0 submit 0 schedule due 5⏎5 clock
 ! sched: plan file not read
 $ sched draw plan.toml trace --workers=1
 ! sched: trace file not read

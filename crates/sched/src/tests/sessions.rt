@@ -1,6 +1,7 @@
 //! Sessions: the program is run as a text says, in a world in memory, and has to answer as the text says.
 //!
-//! Behind a name, `$ ` begins a run by its command line. Each line behind it has a sign, and tells what is given or answered:
+//! Behind a name, which `# ` begins, `$ ` begins a run by its command line. Each line behind it has a sign, and tells what is given or
+//! answered; where it has more lines than one, `⏎` stands between them:
 //!
 //! | Sign | What stands behind it |
 //! |---|---|
@@ -31,17 +32,16 @@ struct Session<'a> {
     trace: String,
     created: String,
     status: Option<u8>,
-    is_closed: bool,
-    is_plan_broken: bool,
-    is_trace_broken: bool,
-    creates: bool,
-    is_full: bool,
+    with: &'a str,
 }
 
-/// Adds a line.
-fn add(text: &mut String, line: &str) -> Result<(), AllocError> {
-    text.push_str(line)?;
-    text.push('\n')
+/// Adds lines.
+fn add(text: &mut String, lines: &str) -> Result<(), AllocError> {
+    for line in lines.split("⏎") {
+        text.push_str(line)?;
+        text.push('\n')?;
+    }
+    Ok(())
 }
 
 impl<'a> Session<'a> {
@@ -56,16 +56,12 @@ impl<'a> Session<'a> {
             trace: String::new(alloc),
             created: String::new(alloc),
             status: None,
-            is_closed: false,
-            is_plan_broken: false,
-            is_trace_broken: false,
-            creates: false,
-            is_full: false,
+            with: "",
         }
     }
 
     /// Takes a line behind that of the command.
-    fn take(&mut self, line: &str) -> Result<(), Fail> {
+    fn take(&mut self, line: &'a str) -> Result<(), Fail> {
         let (sign, rest) = line.split_once(" ").unwrap_or((line, ""));
         match sign {
             "<" => add(&mut self.events, rest)?,
@@ -75,24 +71,14 @@ impl<'a> Session<'a> {
             "trace" => add(&mut self.trace, rest)?,
             "file" => add(&mut self.created, rest)?,
             "=" => self.status = Some(rest.parse::<u8>()?),
-            "with" => return self.take_with(rest),
+            "with" if !self.with.is_empty() => return Err("two files or outputs".into()),
+            "with" => match rest {
+                "closed output" | "broken plan" | "broken trace" | "new file" | "full file" => {
+                    self.with = rest;
+                }
+                _ => return Err("no such thing".into()),
+            },
             _ => return Err("no such sign".into()),
-        }
-        Ok(())
-    }
-
-    /// Takes what is out of order, or may be created.
-    fn take_with(&mut self, what: &str) -> Result<(), Fail> {
-        match what {
-            "closed output" => self.is_closed = true,
-            "broken plan" => self.is_plan_broken = true,
-            "broken trace" => self.is_trace_broken = true,
-            "new file" => self.creates = true,
-            "full file" => {
-                self.creates = true;
-                self.is_full = true;
-            }
-            _ => return Err("no such thing".into()),
         }
         Ok(())
     }
@@ -104,16 +90,19 @@ impl<'a> Session<'a> {
         } else {
             self.plan.as_str()
         };
-        let plan = file(text, self.is_plan_broken);
-        let trace = file(self.trace.as_str(), self.is_trace_broken);
         Given {
             line: self.line,
-            plan,
-            trace,
+            plan: file(text, self.with == "broken plan"),
+            trace: file(self.trace.as_str(), self.with == "broken trace"),
             events: self.events.as_bytes(),
-            is_closed: self.is_closed,
+            is_closed: self.with == "closed output",
             created,
         }
+    }
+
+    /// Whether files can be created.
+    fn creates(&self) -> bool {
+        self.with == "new file" || self.with == "full file"
     }
 
     /// Runs the program, which may create files where these can be.
@@ -122,13 +111,13 @@ impl<'a> Session<'a> {
         rt: &R,
         created: &'g Created,
     ) -> Ended {
-        let kept: Option<&'g Created> = if self.creates { Some(created) } else { None };
+        let kept: Option<&'g Created> = if self.creates() { Some(created) } else { None };
         run_in(rt, self.given(kept))
     }
 
     /// Runs the program, and checks what it answers.
     fn check<R: AllocGlobal + Abort + Threads + Wait + Sync>(&self, rt: &R, name: &str) {
-        let created = Created::new(rt.alloc(), self.is_full);
+        let created = Created::new(rt.alloc(), self.with == "full file");
         let ended = (&*self).ended(rt, &created);
         let faults = u8::from(!self.err.is_empty());
         let status = self.status.unwrap_or(faults);
@@ -140,10 +129,27 @@ impl<'a> Session<'a> {
             self.out.as_str(),
             self.err.as_str(),
         );
-        assert!(rt; created.files.get() == u32::from(self.creates), "{name}");
+        assert!(rt; created.files.get() == u32::from(self.creates()), "{name}");
         let bytes = created.bytes.into_inner();
         assert!(rt; bytes.as_slice() == self.created.as_bytes(), "{name}");
     }
+}
+
+/// Runs the program once, as the lines of a run say, and checks what it answers.
+fn plays_run<R: AllocGlobal + Abort + Threads + Wait + Sync>(
+    rt: &R,
+    name: &str,
+    run: &str,
+) -> Result<(), Fail> {
+    let (line, lines) = run.split_once("\n").ok_or("no command line")?;
+    let mut session = Session::new(rt.alloc(), line);
+    for line in lines.lines() {
+        if !line.is_empty() {
+            session.take(line)?;
+        }
+    }
+    session.check(rt, name);
+    Ok(())
 }
 
 /// Runs the program as often as a text says, and checks what it answers.
@@ -151,17 +157,12 @@ pub fn plays<R: AllocGlobal + Abort + Threads + Wait + Sync>(
     rt: &R,
     text: &str,
 ) -> Result<(), Fail> {
-    let name = text.lines().next().unwrap_or("");
-    for run in text.split("$ ").skip(1) {
-        let mut lines = run.lines();
-        let line = lines.next().ok_or("no command line")?;
-        let mut session = Session::new(rt.alloc(), line);
-        for line in lines {
-            if !line.is_empty() {
-                session.take(line)?;
-            }
+    let (_, sessions) = text.split_once("# ").ok_or("no session")?;
+    for named in sessions.split("\n# ") {
+        let (name, runs) = named.split_once("\n$ ").ok_or("no run")?;
+        for run in runs.split("\n$ ") {
+            plays_run(rt, name, run)?;
         }
-        session.check(rt, name);
     }
     Ok(())
 }

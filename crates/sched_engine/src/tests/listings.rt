@@ -1,20 +1,22 @@
 //! The listings and cores of plans, and where there are none.
+use super::scripted::script;
 use super::*;
 use crate::engine::core_of;
 use crate::listing::write_listing;
+use scripted_ends::{Script, Taking, Trouble};
 
-/// What the writing of a listing answered, and what it wrote.
-fn listed(alloc: Global, plan: &str) -> (Result<(), RunError>, Vec<u8>) {
-    let mut writer = Writing::new(Vec::new(alloc));
+/// What the writing of a listing to a writer with a script answered, and the writer.
+fn listed(alloc: Global, plan: &str, script: Script) -> (Result<(), RunError>, Taking) {
+    let mut writer = Writing::new(Taking::new(alloc, script));
     let answer = write_listing(alloc, plan.as_bytes(), &mut writer).map_err(RunError::from);
     (answer, writer.into_inner())
 }
 
 /// Checks the listing of a plan.
 fn lists(rt: &(impl AllocGlobal + Abort), plan: &str, listing: &str) {
-    let (answer, text) = listed(rt.alloc(), plan);
+    let (answer, writer) = listed(rt.alloc(), plan, Script::smooth(65_536));
     assert!(rt; answer == Ok(()), "{plan}: {answer:?}");
-    assert!(rt; text.as_slice() == listing.as_bytes(), "{plan}");
+    assert!(rt; writer.taken() == listing.as_bytes(), "{plan}");
 }
 
 #[test]
@@ -54,48 +56,20 @@ call = [
 
 #[test]
 fn lists_nothing_of_a_text_that_is_no_plan(rt: HostRuntime) {
-    let (answer, text) = listed(rt.alloc(), "version = 3");
-    assert!(rt;
-        answer
-            == Err(RunError::Plan(PlanFault {
-                kind: PlanFaultKind::Version,
-                block: 0,
-                call: 0,
-            }))
-    );
-    assert!(rt; text.is_empty());
+    let (answer, writer) = listed(rt.alloc(), "version = 3", Script::smooth(65_536));
+    assert!(rt; answer == Err(of_text(PlanFaultKind::Version)));
+    assert!(rt; writer.taken().is_empty());
 }
 
-/// A writer that takes a few bytes, and then none.
-#[derive(Drop)]
-struct Short {
-    left: usize,
-}
-
-impl Write for Short {
-    fn write(&mut self, buf: &[u8]) -> io::Result<usize> {
-        let n = buf.len().min(self.left);
-        self.left -= n;
-        Ok(n)
-    }
-
-    fn flush(&mut self) -> io::Result<()> {
-        Ok(())
-    }
-}
-
+/// A writer takes so many bytes of 29, and then none.
 #[test]
 fn tells_a_writer_that_takes_no_more(rt: HostRuntime) {
-    let alloc = rt.alloc();
-    for left in [0usize, 1, 28] {
-        let mut writer = Writing::new(Short { left });
-        let answer = write_listing(alloc, ONE_DELAY.plan.as_bytes(), &mut writer).map_err(
-            RunError::from,
-        );
-        assert!(rt; answer == Err(RunError::Write), "{left}");
+    let fault = Err(RunError::Write);
+    for (left, wanted) in [(0, fault), (1, fault), (28, fault), (29, Ok(()))] {
+        let script = script(left, 0, 2, Trouble::TakesNothing);
+        let (answer, _) = listed(rt.alloc(), ONE_DELAY.plan, script);
+        assert!(rt; answer == wanted, "{left}: {answer:?}");
     }
-    let mut writer = Writing::new(Short { left: 29 });
-    assert!(rt; write_listing(alloc, ONE_DELAY.plan.as_bytes(), &mut writer).is_ok());
 }
 
 #[test]

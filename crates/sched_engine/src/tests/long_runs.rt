@@ -1,5 +1,5 @@
 //! Long runs through [`Reading`] and [`Writing`], as the program has them.
-use super::scripted::{ScriptedRow, plays};
+use super::scripted::{ScriptedRow, plays, script};
 use super::*;
 use crate::in_memory::run_in_memory;
 use scripted_ends::{Script, Trouble};
@@ -18,40 +18,35 @@ fn long_run<'a>(events: &'a str, text: &'a str, most: usize) -> ScriptedRow<'a> 
         again: "",
         reader: Script::smooth(most),
         writer: Script::smooth(most),
-        answer: Ok(Report {
-            events: 20_000,
-            lines: 20_000,
-        }),
+        answer: Ok(report(20_000, 20_000)),
         text,
         least: 360_000,
         greatest: 360_000,
     }
 }
 
-/// An end that gives or takes this many bytes a call, and is in trouble at one call.
-fn in_trouble(most: usize, trouble_at: u32, trouble: Trouble) -> Script {
-    Script {
-        trouble_at,
-        trouble,
-        ..Script::smooth(most)
-    }
+/// Checks a run of an empty plan over so many such events between these ends: its answer, and how many bytes are written.
+fn plays_long(
+    rt: &(impl AllocGlobal + Abort),
+    count: usize,
+    ends: (Script, Script),
+    answer: Result<Report, RunError>,
+    bytes: (usize, usize),
+) -> Result<(), Fail> {
+    let events = EVENT.repeat(rt.alloc(), count)?;
+    let text = ANSWER.repeat(rt.alloc(), count)?;
+    let row = long_run(events.as_str(), text.as_str(), 1).between(ends.0, ends.1);
+    plays(rt, &row.comes_to(answer, bytes.0, bytes.1));
+    Ok(())
 }
 
 /// An interrupt in mid-stream is none of their faults.
 #[test]
 fn long_runs_end_well(rt: HostRuntime) -> Result<(), Fail> {
-    let events = EVENT.repeat(rt.alloc(), 20_000)?;
-    let text = ANSWER.repeat(rt.alloc(), 20_000)?;
+    let answer = Ok(report(20_000, 20_000));
     for most in [5usize, 1_000, 65_536, 1_000_000] {
-        let interrupted = in_trouble(most, 2, Trouble::Fails(ErrorKind::Interrupted));
-        plays(
-            &rt,
-            &ScriptedRow {
-                reader: interrupted,
-                writer: interrupted,
-                ..long_run(events.as_str(), text.as_str(), most)
-            },
-        );
+        let end = script(most, 0, 2, Trouble::Fails(ErrorKind::Interrupted));
+        plays_long(&rt, 20_000, (end, end), answer, (360_000, 360_000))?;
     }
     Ok(())
 }
@@ -59,80 +54,36 @@ fn long_runs_end_well(rt: HostRuntime) -> Result<(), Fail> {
 /// A reader that gives, and a writer that takes, one byte a call: more than 1 MiB is written whole.
 #[test]
 fn more_than_a_mebibyte_goes_a_byte_a_call(rt: HostRuntime) -> Result<(), Fail> {
-    let events = EVENT.repeat(rt.alloc(), 60_000)?;
     let text = ANSWER.repeat(rt.alloc(), 60_000)?;
     assert!(rt; text.len() > 1_048_576);
+    let answer = Ok(report(60_000, 60_000));
     for most in [1usize, 65_536] {
-        plays(
-            &rt,
-            &ScriptedRow {
-                reader: Script::smooth(most),
-                answer: Ok(Report {
-                    events: 60_000,
-                    lines: 60_000,
-                }),
-                least: 1_080_000,
-                greatest: 1_080_000,
-                ..long_run(events.as_str(), text.as_str(), 1)
-            },
-        );
+        let ends = (Script::smooth(most), Script::smooth(1));
+        plays_long(&rt, 60_000, ends, answer, (1_080_000, 1_080_000))?;
     }
     Ok(())
 }
 
+/// 5,000 bytes were read, which are 625 events. An end in mid-line is no event.
 #[test]
-fn a_fault_in_mid_stream_of_the_reader_is_told_at_once(rt: HostRuntime) -> Result<(), Fail> {
-    let events = EVENT.repeat(rt.alloc(), 20_000)?;
-    let text = ANSWER.repeat(rt.alloc(), 20_000)?;
-    for kind in [ErrorKind::Other, ErrorKind::WouldBlock] {
-        // 5,000 bytes were read, which are 625 events
-        plays(
-            &rt,
-            &ScriptedRow {
-                reader: in_trouble(5, 1_001, Trouble::Fails(kind)),
-                answer: Err(RunError::Read),
-                least: 11_250,
-                greatest: 11_250,
-                ..long_run(events.as_str(), text.as_str(), 5)
-            },
-        );
+fn trouble_of_the_reader_in_mid_stream_is_told_at_once(rt: HostRuntime) -> Result<(), Fail> {
+    for (trouble_at, trouble, fault) in [
+        (1_001, Trouble::Fails(ErrorKind::Other), RunError::Read),
+        (1_001, Trouble::Fails(ErrorKind::WouldBlock), RunError::Read),
+        (1_002, Trouble::TakesNothing, RunError::EventLine(626)),
+    ] {
+        let ends = (script(5, 0, trouble_at, trouble), Script::smooth(5));
+        plays_long(&rt, 20_000, ends, Err(fault), (11_250, 11_250))?;
     }
     Ok(())
 }
 
-#[test]
-fn an_end_in_mid_line_is_no_event(rt: HostRuntime) -> Result<(), Fail> {
-    let events = EVENT.repeat(rt.alloc(), 20_000)?;
-    let text = ANSWER.repeat(rt.alloc(), 20_000)?;
-    plays(
-        &rt,
-        &ScriptedRow {
-            reader: in_trouble(5, 1_002, Trouble::TakesNothing),
-            answer: Err(RunError::EventLine(626)),
-            least: 11_250,
-            greatest: 11_250,
-            ..long_run(events.as_str(), text.as_str(), 5)
-        },
-    );
-    Ok(())
-}
-
+/// What was given to the writer is answered whole, and 1,000 writes took 7 bytes at most.
 #[test]
 fn a_fault_in_mid_stream_of_the_writer_is_told_at_once(rt: HostRuntime) -> Result<(), Fail> {
-    let events = EVENT.repeat(rt.alloc(), 20_000)?;
-    let text = ANSWER.repeat(rt.alloc(), 20_000)?;
     for trouble in [Trouble::Fails(ErrorKind::BrokenPipe), Trouble::TakesNothing] {
-        // what was given to the writer is answered whole, and 1,000 writes took 7 bytes at most
-        plays(
-            &rt,
-            &ScriptedRow {
-                writer: in_trouble(7, 1_001, trouble),
-                answer: Err(RunError::Write),
-                least: 5_001,
-                greatest: 7_000,
-                ..long_run(events.as_str(), text.as_str(), 7)
-            },
-        );
+        let ends = (Script::smooth(7), script(7, 0, 1_001, trouble));
+        plays_long(&rt, 20_000, ends, Err(RunError::Write), (5_001, 7_000))?;
     }
     Ok(())
 }
@@ -156,19 +107,8 @@ fn many_calls(alloc: Global) -> Result<(String, String), Fail> {
 #[test]
 fn one_clock_makes_all_calls(rt: HostRuntime) -> Result<(), Fail> {
     let (plan, trace) = many_calls(rt.alloc())?;
-    answers(
-        &rt,
-        &Run {
-            plan: plan.as_str(),
-            limit: 9,
-            events: "clock 1000\n",
-            answer: Ok(Report {
-                events: 1,
-                lines: 257,
-            }),
-            trace: trace.as_str(),
-        },
-    );
+    let told = (Ok(report(1, 257)), trace.as_str());
+    answers(&rt, "one clock", plan.as_str(), 1, 9, "clock 1000\n", told);
     Ok(())
 }
 
@@ -198,10 +138,7 @@ fn many_lines(alloc: Global) -> Result<String, Fail> {
 fn long_event(text: &str, most: usize) -> ScriptedRow<'_> {
     ScriptedRow {
         plan: MANY_TASKS,
-        answer: Ok(Report {
-            events: 1,
-            lines: 4_097,
-        }),
+        answer: Ok(report(1, 4_097)),
         least: text.len(),
         greatest: text.len(),
         ..long_run("clock 0\n", text, most)
@@ -221,16 +158,9 @@ fn the_text_of_a_long_event_is_written_as_it_comes(rt: HostRuntime) -> Result<()
 fn a_fault_of_the_writer_in_mid_event_is_told_at_once(rt: HostRuntime) -> Result<(), Fail> {
     let text = many_lines(rt.alloc())?;
     // two writes take what is held first, which lacks less than a line of 65,536 bytes
-    plays(
-        &rt,
-        &ScriptedRow {
-            writer: in_trouble(40_000, 3, Trouble::TakesNothing),
-            answer: Err(RunError::Write),
-            least: 65_408,
-            greatest: 65_536,
-            ..long_event(text.as_str(), 40_000)
-        },
-    );
+    let writer = script(40_000, 0, 3, Trouble::TakesNothing);
+    let row = long_event(text.as_str(), 40_000).between(Script::smooth(40_000), writer);
+    plays(&rt, &row.comes_to(Err(RunError::Write), 65_408, 65_536));
     Ok(())
 }
 

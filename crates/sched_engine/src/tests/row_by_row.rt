@@ -6,14 +6,9 @@ use rows::{Row, TOPICS, topic};
 fn runs(rt: &(impl AllocGlobal + Abort), row: &Row) -> Result<(), Fail> {
     let events = u32::try_from(row.events.lines().count())?;
     let lines = u64::try_from(row.trace.lines().count())?;
-    let wanted = Run {
-        plan: row.plan,
-        limit: events.max(1),
-        events: row.events,
-        answer: Ok(Report { events, lines }),
-        trace: row.trace,
-    };
-    answers_with(rt, &wanted, row.workers, row.name);
+    let limit = events.max(1);
+    let told = (Ok(report(events, lines)), row.trace);
+    answers(rt, row.name, row.plan, row.workers, limit, row.events, told);
     Ok(())
 }
 

@@ -20,6 +20,32 @@ pub struct ScriptedRow<'a> {
     pub greatest: usize,
 }
 
+impl<'a> ScriptedRow<'a> {
+    /// The same between these ends.
+    pub fn between(self, reader: Script, writer: Script) -> ScriptedRow<'a> {
+        ScriptedRow {
+            reader,
+            writer,
+            ..self
+        }
+    }
+
+    /// The same with this answer, and so many bytes of the text.
+    pub fn comes_to(
+        self,
+        answer: Result<Report, RunError>,
+        least: usize,
+        greatest: usize,
+    ) -> ScriptedRow<'a> {
+        ScriptedRow {
+            answer,
+            least,
+            greatest,
+            ..self
+        }
+    }
+}
+
 /// Checks what a run came to: its answer, that an end at fault was called no more, and what was written.
 fn came_to(
     rt: &impl Abort,
@@ -39,19 +65,23 @@ fn came_to(
 /// Checks a run.
 pub fn plays(rt: &(impl AllocGlobal + Abort), row: &ScriptedRow<'_>) {
     let (events, again) = (row.events.as_bytes(), row.again.as_bytes());
+    let (alloc, plan) = (rt.alloc(), row.plan.as_bytes());
     let mut reader = Reading::new(Giving::new(events, again, row.reader));
-    let mut writer = Writing::new(Taking::new(rt.alloc(), row.writer));
-    let answer = run(
-        rt.alloc(),
-        row.plan.as_bytes(),
-        9,
-        row.limit,
-        &mut reader,
-        &mut writer,
-    );
+    let mut writer = Writing::new(Taking::new(alloc, row.writer));
+    let answer = run(alloc, plan, 9, row.limit, &mut reader, &mut writer);
     let reads = reader.into_inner().calls();
     let sink = writer.into_inner();
     came_to(rt, row, answer, reads, sink.calls(), sink.taken());
+}
+
+/// An end that gives or takes so many bytes a call, is interrupted so often before each other one, and is in trouble at one.
+pub fn script(most: usize, interrupts: u32, trouble_at: u32, trouble: Trouble) -> Script {
+    Script {
+        most,
+        interrupts,
+        trouble_at,
+        trouble,
+    }
 }
 
 /// The example, read in pieces of 8 bytes, which are its first lines.
@@ -63,10 +93,7 @@ fn example() -> ScriptedRow<'static> {
         again: "",
         reader: Script::smooth(8),
         writer: Script::smooth(65_536),
-        answer: Ok(Report {
-            events: 7,
-            lines: 8,
-        }),
+        answer: Ok(report(7, 8)),
         text: ONE_DELAY.trace,
         least: ONE_DELAY.trace.len(),
         greatest: ONE_DELAY.trace.len(),
@@ -76,24 +103,14 @@ fn example() -> ScriptedRow<'static> {
 #[test]
 fn fruitless_calls_are_tried_again(rt: HostRuntime) {
     let smooth = Script::smooth(1);
-    let interrupted = Script {
-        interrupts: 999,
-        ..Script::smooth(8)
-    };
+    let interrupted = script(8, 999, 0, Trouble::TakesNothing);
     for (reader, writer) in [
         (smooth, smooth),
         (interrupted, smooth),
         (smooth, interrupted),
         (interrupted, interrupted),
     ] {
-        plays(
-            &rt,
-            &ScriptedRow {
-                reader,
-                writer,
-                ..example()
-            },
-        );
+        plays(&rt, &example().between(reader, writer));
     }
 }
 
@@ -106,21 +123,9 @@ fn tells_a_fault_of_the_reader(rt: HostRuntime) {
         (999, ErrorKind::Interrupted, 57),
         (1_000, ErrorKind::Other, 0),
     ] {
-        plays(
-            &rt,
-            &ScriptedRow {
-                reader: Script {
-                    interrupts,
-                    trouble_at: 4,
-                    trouble: Trouble::Fails(kind),
-                    ..Script::smooth(8)
-                },
-                answer: Err(RunError::Read),
-                least: written,
-                greatest: written,
-                ..example()
-            },
-        );
+        let reader = script(8, interrupts, 4, Trouble::Fails(kind));
+        let row = example().between(reader, Script::smooth(65_536));
+        plays(&rt, &row.comes_to(Err(RunError::Read), written, written));
     }
 }
 
@@ -134,70 +139,34 @@ fn tells_a_fault_of_the_writer(rt: HostRuntime) {
         (999, Trouble::Fails(ErrorKind::Interrupted), 24),
         (1_000, Trouble::TakesNothing, 0),
     ] {
-        plays(
-            &rt,
-            &ScriptedRow {
-                writer: Script {
-                    interrupts,
-                    trouble_at: 4,
-                    trouble,
-                    ..Script::smooth(8)
-                },
-                answer: Err(RunError::Write),
-                least: written,
-                greatest: written,
-                ..example()
-            },
-        );
+        let writer = script(8, interrupts, 4, trouble);
+        let row = example().between(Script::smooth(8), writer);
+        plays(&rt, &row.comes_to(Err(RunError::Write), written, written));
     }
 }
 
 #[test]
 fn ends_on_readers_without_end(rt: HostRuntime) {
-    let row = ScriptedRow {
-        plan: "version = 1",
-        limit: 5,
-        events: "",
-        reader: Script::smooth(65_536),
-        answer: Err(RunError::EventLine(1)),
-        text: "",
-        least: 0,
-        greatest: 0,
-        ..example()
-    };
-    for most in [1usize, 65_536] {
-        for again in ["a", "\n"] {
-            plays(
-                &rt,
-                &ScriptedRow {
-                    again,
-                    reader: Script::smooth(most),
-                    ..row
-                },
-            );
-        }
-        plays(
-            &rt,
-            &ScriptedRow {
-                again: "clock 0\n",
-                reader: Script::smooth(most),
-                answer: Err(RunError::Full),
-                text: "0 clock\n0 clock\n0 clock\n0 clock\n0 clock\n",
-                least: 40,
-                greatest: 40,
-                ..row
-            },
-        );
+    let five = "0 clock\n0 clock\n0 clock\n0 clock\n0 clock\n";
+    let interrupted = script(65_536, u32::MAX, 0, Trouble::TakesNothing);
+    for (again, reader, fault, text) in [
+        ("a", Script::smooth(1), RunError::EventLine(1), ""),
+        ("a", Script::smooth(65_536), RunError::EventLine(1), ""),
+        ("\n", Script::smooth(1), RunError::EventLine(1), ""),
+        ("\n", Script::smooth(65_536), RunError::EventLine(1), ""),
+        ("clock 0\n", Script::smooth(1), RunError::Full, five),
+        ("clock 0\n", Script::smooth(65_536), RunError::Full, five),
+        ("", interrupted, RunError::Read, ""),
+    ] {
+        let row = ScriptedRow {
+            plan: "version = 1",
+            limit: 5,
+            events: "",
+            again,
+            reader,
+            text,
+            ..example()
+        };
+        plays(&rt, &row.comes_to(Err(fault), text.len(), text.len()));
     }
-    plays(
-        &rt,
-        &ScriptedRow {
-            reader: Script {
-                interrupts: u32::MAX,
-                ..row.reader
-            },
-            answer: Err(RunError::Read),
-            ..row
-        },
-    );
 }

@@ -50,9 +50,8 @@ impl Write for Taker<'_> {
     fn write(&mut self, buf: &[u8]) -> io::Result<usize> {
         let n = buf.len().min(self.most);
         let written = self.desk.written.get();
-        self.desk
-            .written
-            .set(written.saturating_add(newlines(&buf[..n])));
+        let taken = newlines(&buf[..n]);
+        self.desk.written.set(written.saturating_add(taken));
         Ok(n)
     }
 
@@ -64,13 +63,8 @@ impl Write for Taker<'_> {
 #[test]
 fn no_line_waits_while_more_is_read(rt: HostRuntime) -> Result<(), Fail> {
     let input = "start 9\ncancel 7\n".repeat(rt.alloc(), 6_000)?;
-    for (reads, writes) in [
-        (1usize, 1_000usize),
-        (3, 2),
-        (8, 9),
-        (100, 1),
-        (65_536, 65_536),
-    ] {
+    let alloc = rt.alloc();
+    for (reads, writes) in [(1, 1_000), (3, 2), (8, 9), (100, 1), (65_536, 65_536)] {
         let desk = Desk {
             given: Cell::new(0),
             written: Cell::new(0),
@@ -85,19 +79,8 @@ fn no_line_waits_while_more_is_read(rt: HostRuntime) -> Result<(), Fail> {
             desk: &desk,
             most: writes,
         });
-        let answer = run(
-            rt.alloc(),
-            b"version = 1",
-            1,
-            100_000,
-            &mut reader,
-            &mut writer,
-        );
-        let report = Report {
-            events: 12_000,
-            lines: 12_000,
-        };
-        assert_eq!(rt; answer, Ok(report));
+        let answer = run(alloc, b"version = 1", 1, 100_000, &mut reader, &mut writer);
+        assert_eq!(rt; answer, Ok(report(12_000, 12_000)));
         assert_eq!(rt; desk.written.get(), 12_000);
         assert!(rt; !desk.waited.get());
     }

@@ -1,12 +1,11 @@
 -- Which tasks a sweep finds as it goes over the slots. No contract of a public call cites it.
 -- All of it is this project's rule.
-use Rattle.std.specs.Prelude.{ℕ, ◌+◌, Bool, true, if◌then◌else◌, List, [], ◌∷◌, ◌++◌, Option, Some, None, map, take, drop}
+use Rattle.std.specs.Prelude.{ℕ, ◌+◌, Bool, if◌then◌else◌, List, [], ◌∷◌, ◌++◌, Option, Some, None, map, take, drop}
 use Rattle.std.specs.Option.{option_map}
 use Rattle.task_table.specs.declared.seat.Seat.{Seat}
 use Rattle.task_table.specs.declared.seat.TaskRef.{TaskRef}
 use Rattle.task_table.specs.Tables.{TableView}
-use Rattle.task_table.specs.Ends.{is_swept}
-use Rattle.task_table.specs.Changes.{put, swept}
+use Rattle.task_table.specs.Changes.{swept}
 
 -- the task in a slot, if it passes a test
 abbrev pub ref_of : (Seat → Bool) → ℕ → Option Seat → List TaskRef
@@ -17,15 +16,6 @@ ref_of test slot (Some x) = if test x then record { number = x.number; slot = sl
 abbrev pub found : (Seat → Bool) → ℕ → List (Option Seat) → List TaskRef
 found test slot [] = []
 found test slot (o ∷ slots) = ref_of test slot o ++ found test (slot + 1) slots
-
--- a sweep of the table ends a task
-abbrev pub ends_task : TableView → Seat → Bool
-ends_task m x = is_swept m.stopped m.policies m.moment x
-
--- the table once the task in a slot, which holds this, is swept
-abbrev pub swept_in : Option Seat → TableView → ℕ → TableView
-swept_in None m slot = m
-swept_in (Some x) m slot = if ends_task m x then put m slot (record x { cancelled = true }) else m
 
 -- the table once its first slots are swept
 abbrev pub partly : TableView → ℕ → TableView

@@ -1,14 +1,13 @@
 -- What stands in the two queues of a table: each task that waits in the one, and each that is kept in the other. No contract of a
 -- public call cites it but through the invariant of the table. All of it is this project's rule.
 use Rattle.std.specs.Prelude.{◌≡◌, ℕ, ◌≤◌, ◌&&◌, not, Bool, true, false, if◌then◌else◌, length, Option, Some, None}
-use Rattle.std.specs.Option.{option_map_or}
 use Rattle.executor_model.specs.declared.task.Stage.TheVariants as ph
 use Rattle.executor_model.specs.declared.types.Outcome.{Outcome}
 use Rattle.executor_model.specs.declared.types.Outcome.TheVariants as o
 use Rattle.task_table.specs.declared.seat.Seat.{Seat}
 use Rattle.task_table.specs.Seats.{task_in, slot_of, waits, is_waiting_in}
 use Rattle.task_table.specs.Tables.{TableView}
-use Rattle.task_table.specs.Ends.{is_swept}
+use Rattle.task_table.specs.Ends.{ends_at_slot}
 use Rattle.task_table.specs.own.Formed.{IsFormed}
 
 -- the due moment and the number of a task, where it stands in the queue
@@ -44,13 +43,9 @@ is_again _ = false
 abbrev pub key_cancelled : Bool → Seat → Option (ℕ × ℕ)
 key_cancelled removes x = key_where (is_waiting_in x.phase && not removes) x
 
--- a sweep of the table ends the task in a slot
-abbrev pub ends_at : TableView → ℕ → Bool
-ends_at m i = option_map_or (is_swept m.stopped m.policies m.moment) (slot_of m.slots i) false
-
 -- a queue once the tasks that a sweep of the table ends are taken out
 abbrev pub without_swept : TableView → (ℕ → Option (ℕ × ℕ)) → ℕ → Option (ℕ × ℕ)
-without_swept m entries i = if ends_at m i then None else entries i
+without_swept m entries i = if ends_at_slot m i then None else entries i
 
 -- what stays true of each table with its two queues: it is well formed, the queues hold what its slots say, and have room for each
 -- slot; each task may have an entry at its slot, and each run that is under way may be

@@ -45,26 +45,7 @@ fn changed(alloc: Global, text: &[u8], at: usize, instead: &[u8]) -> Result<Vec<
     Ok(changed)
 }
 
-/// Checks a trace with other bytes in the place of one, and answers whether it is another text that conforms.
-fn conforms_with(
-    rt: &(impl AllocGlobal + Abort),
-    plan: &Plan<Global>,
-    calls: &[(u64, CodeCall)],
-    workers: u8,
-    trace: &[u8],
-    at: usize,
-    instead: &[u8],
-) -> Result<bool, Fail>
-    requires orderly { IsPlanned calls.now }
-    requires within { at < length trace.now }
-{
-    let text = changed(rt.alloc(), trace, at, instead)?;
-    let found = found_by_both(rt.alloc(), plan, calls, workers, &text)?;
-    assert!(rt; found.is_some(), "{at}: {instead:?}");
-    Ok(found == Some(Finding::Conforms) && text.as_slice() != trace)
-}
-
-/// Checks the texts that differ from a trace at one place, and answers how many of them conform.
+/// Checks the texts that differ from a trace at one place, and answers how many other texts conform.
 fn conforming_at(
     rt: &(impl AllocGlobal + Abort),
     plan: &Plan<Global>,
@@ -79,7 +60,10 @@ fn conforming_at(
     let code = trace[at];
     let mut conforming = 0usize;
     for instead in [b"".as_slice(), b"0", b"9", b" ", b"\n", b"x", &[code, code]] {
-        if conforms_with(rt, plan, calls, workers, trace, at, instead)? {
+        let text = changed(rt.alloc(), trace, at, instead)?;
+        let found = found_by_both(rt.alloc(), plan, calls, workers, &text)?;
+        assert!(rt; found.is_some(), "{at}: {instead:?}");
+        if found == Some(Finding::Conforms) && text.as_slice() != trace {
             conforming = conforming.saturating_add(1);
         }
     }
@@ -133,24 +117,6 @@ fn line_at(trace: &str, at: usize) -> &str {
     ""
 }
 
-/// Checks a trace with a change of the line at a place.
-fn finds_line_change(
-    rt: &(impl AllocGlobal + Abort),
-    plan: &Plan<Global>,
-    calls: &[(u64, CodeCall)],
-    workers: u8,
-    trace: &str,
-    at: usize,
-    change: LineChange,
-) -> Result<(), Fail>
-    requires { IsPlanned calls.now }
-{
-    let text = with_line_changed(rt.alloc(), trace, at, change)?;
-    let found = found_by_both(rt.alloc(), plan, calls, workers, text.as_bytes())?;
-    assert!(rt; found.is_some(), "{at}: {change:?}");
-    Ok(())
-}
-
 /// Checks the texts that differ from a trace by one line.
 fn finds_line_changes(
     rt: &(impl AllocGlobal + Abort),
@@ -167,7 +133,9 @@ fn finds_line_changes(
             LineChange::Doubled,
             LineChange::PutBehindTheNext,
         ] {
-            finds_line_change(rt, plan, calls, workers, trace, at, change)?;
+            let text = with_line_changed(rt.alloc(), trace, at, change)?;
+            let found = found_by_both(rt.alloc(), plan, calls, workers, text.as_bytes())?;
+            assert!(rt; found.is_some(), "{at}: {change:?}");
         }
     }
     Ok(())

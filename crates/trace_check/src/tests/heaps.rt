@@ -5,20 +5,7 @@ use plan_read::Plan;
 use rows::shutdown::A_SWEEP;
 use std::alloc::Global;
 
-/// What a check over a heap answers; all memory is given back.
-fn checked_over(
-    rt: &impl Abort,
-    heap: &LocalHeap,
-    plan: &Plan<Global>,
-    text: &[u8],
-) -> Result<Finding, CheckError> {
-    assert!(rt; text.len() <= MOST_BYTES);
-    let answer = check(heap, plan, 1, text);
-    assert_eq!(rt; heap.used(), 0);
-    answer
-}
-
-/// Whether a check over a heap of this size is refused memory; else it has this finding.
+/// Whether a check over a heap of this size is refused memory; else it has this finding. All memory is given back.
 fn is_refused(
     rt: &(impl AllocGlobal + Abort),
     plan: &Plan<Global>,
@@ -26,8 +13,10 @@ fn is_refused(
     finding: Finding,
     size: usize,
 ) -> Result<bool, Fail> {
+    assert!(rt; text.len() <= MOST_BYTES);
     let heap = LocalHeap::new(rt.alloc(), size)?;
-    let answer = checked_over(rt, &heap, plan, text);
+    let answer = check(&heap, plan, 1, text);
+    assert_eq!(rt; heap.used(), 0);
     let is_refused = answer == Err(CheckError::Memory);
     assert!(rt; is_refused || answer == Ok(finding), "{size}: {answer:?}");
     Ok(is_refused)

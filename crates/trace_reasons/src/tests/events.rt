@@ -1,112 +1,55 @@
 //! Lines of events that could not stand.
 
-use super::{A_RATE, ONE_DELAY, tell};
-use std::test::Fail;
+/// Tables of texts that are held against `ONE_DELAY`.
+pub const OF_ONE_DELAY: &str = "\
+    starts | 0 submit 0 schedule due 5 / 0 clock / 0 start 0 idle / 4 clock / 4 start 0 idle / 5 clock / \n\
+    p:7: \"5 start 0 idle\": breaks; \"5 start 0 task 0 run 0 due 5\" could stand here | 5 start 0 idle\n\
+    p:7: \"5 start 0 task 0 run 1 due 5\": breaks; \"5 start 0 task 0 run 0 due 5\" could stand here | 5 start 0 task 0 run 1 due 5\n\
+    p:7: \"5 start 0 task 0 run 0 due 6\": breaks; \"5 start 0 task 0 run 0 due 5\" could stand here | 5 start 0 task 0 run 0 due 6\n\
+    p:7: \"5 start 0 task 1 run 0 due 5\": breaks; \"5 start 0 task 0 run 0 due 5\" could stand here | 5 start 0 task 1 run 0 due 5\n\
+    p:7: \"4 start 0 task 0 run 0 due 5\": breaks; \"5 start 0 task 0 run 0 due 5\" could stand here | 4 start 0 task 0 run 0 due 5\n\
+    p:7: \"6 start 0 task 0 run 0 due 5\": breaks; \"6 clock\" or \"5 start 0 task 0 run 0 due 5\" could stand here | 6 start 0 task 0 run 0 due 5\n\
+    p:7: \"5 start 1 task 0 run 0 due 5\": breaks; \"5 error no worker\" could stand here; conforms with --workers 2 to 64 | 5 start 1 task 0 run 0 due 5 / 5 clock\n\
+    \n\
+    a start too early | 0 submit 0 schedule due 5 / 4 clock / \n\
+    p:3: \"4 start 0 task 0 run 0 due 5\": breaks; \"4 start 0 idle\" could stand here | 4 start 0 task 0 run 0 due 5\n\
+    p:3: \"5 start 0 task 0 run 0 due 5\": breaks; \"5 clock\" or \"4 start 0 idle\" could stand here | 5 start 0 task 0 run 0 due 5\n\
+    \n\
+    starts and finishes of the wrong worker | 0 submit 0 schedule due 5 / 5 clock / 5 start 0 task 0 run 0 due 5 / \n\
+    p:4: \"5 start 0 idle\": breaks; \"5 finish 0 task 0 run 0 done 0\" or \"5 error busy\" could stand here | 5 start 0 idle\n\
+    p:4: \"5 finish 1 task 0 run 0 done 7\": breaks; \"5 error no worker\" could stand here | 5 finish 1 task 0 run 0 done 7\n\
+    \n\
+    finishes of a worker that has not started | 0 submit 0 schedule due 5 / 5 clock / \n\
+    p:3: \"5 finish 0 task 0 run 0 done 7\": breaks; \"5 start 0 task 0 run 0 due 5\" or \"5 error not running\" could stand here | 5 finish 0 task 0 run 0 done 7\n\
+    \n\
+    finishes | 0 submit 0 schedule due 5 / 5 clock / 5 start 0 task 0 run 0 due 5 / \n\
+    p:4: \"5 finish 0 task 0 run 1 done 7\": breaks; \"5 finish 0 task 0 run 0 done 7\" could stand here | 5 finish 0 task 0 run 1 done 7\n\
+    p:4: \"5 finish 0 task 0 run 0 again due 9\": breaks; \"5 finish 0 task 0 run 0 done 0\" could stand here | 5 finish 0 task 0 run 0 again due 9\n\
+    \n\
+    clocks | \n\
+    p:1: \"0 clock\": breaks; \"0 submit 0 schedule due 5\" could stand here | 0 clock\n\
+    p:1: \"7 clock\": breaks; \"0 submit 0 schedule due 5\" could stand here | 7 clock\n\
+    p:3: \"3 clock\": breaks; \"5 error backward\" or \"5 clock\" could stand here | 0 submit 0 schedule due 5 / 5 clock / 3 clock\n\
+    p:3: \"4611686018427387905 clock\": breaks; \"5 error too far\" could stand here | 0 submit 0 schedule due 5 / 5 clock / 4611686018427387905 clock\n\
+    \n\
+    cancels from outside | 0 submit 0 schedule due 5 / 3 clock / \n\
+    p:3: \"3 outside 0 no\": breaks; \"3 outside 0 yes\" could stand here | 3 outside 0 no\n\
+    p:4: \"3 outside 0 yes\": breaks; \"3 outside 0 no\" could stand here | 3 outside 0 yes / 3 outside 0 yes\n\
+    p:3: \"3 outside 1 yes\": breaks; \"3 error no task\" could stand here | 3 outside 1 yes\n\
+    p:3: \"4 outside 0 yes\": breaks; \"4 clock\" or \"3 outside 0 yes\" could stand here | 4 outside 0 yes\n\
+    \n\
+    errors | 0 submit 0 schedule due 5 / 3 clock / \n\
+    p:3: \"3 error busy\": breaks; \"3 start 0 idle\" could stand here | 3 error busy\n\
+    p:3: \"2 error not running\": breaks; \"3 start 0 idle\" or \"3 error not running\" could stand here | 2 error not running\n\
+    p:3: \"2 error backward\": breaks; \"3 error backward\" or \"3 clock\" could stand here | 2 error backward\n\
+    p:3: \"4 error too far\": breaks; \"4 clock\" or \"3 error too far\" could stand here | 4 error too far\n\
+    p:3: \"2 error no worker\": breaks; \"3 error no worker\" could stand here | 2 error no worker\n\
+    p:3: \"2 error no task\": breaks; \"3 error no task\" could stand here | 2 error no task";
 
-const FRONT: &str =
-    "0 submit 0 schedule due 5\n0 clock\n0 start 0 idle\n4 clock\n4 start 0 idle\n5 clock\n";
-
-#[test]
-fn starts(rt: HostRuntime) -> Result<(), Fail> {
-    tell(
-        &rt,
-        ONE_DELAY,
-        FRONT,
-        "p:7: \"5 start 0 idle\": breaks; \"5 start 0 task 0 run 0 due 5\" could stand here | 5 start 0 idle\n\
-         p:7: \"5 start 0 task 0 run 1 due 5\": breaks; \"5 start 0 task 0 run 0 due 5\" could stand here | 5 start 0 task 0 run 1 due 5\n\
-         p:7: \"5 start 0 task 0 run 0 due 6\": breaks; \"5 start 0 task 0 run 0 due 5\" could stand here | 5 start 0 task 0 run 0 due 6\n\
-         p:7: \"5 start 0 task 1 run 0 due 5\": breaks; \"5 start 0 task 0 run 0 due 5\" could stand here | 5 start 0 task 1 run 0 due 5\n\
-         p:7: \"4 start 0 task 0 run 0 due 5\": breaks; \"5 start 0 task 0 run 0 due 5\" could stand here | 4 start 0 task 0 run 0 due 5\n\
-         p:7: \"6 start 0 task 0 run 0 due 5\": breaks; \"6 clock\" or \"5 start 0 task 0 run 0 due 5\" could stand here | 6 start 0 task 0 run 0 due 5\n\
-         p:7: \"5 start 1 task 0 run 0 due 5\": breaks; \"5 error no worker\" could stand here; conforms with --workers 2 to 64 | 5 start 1 task 0 run 0 due 5 / 5 clock",
-    )
-}
-
-#[test]
-fn a_start_too_early(rt: HostRuntime) -> Result<(), Fail> {
-    tell(
-        &rt,
-        ONE_DELAY,
-        "0 submit 0 schedule due 5\n4 clock\n",
-        "p:3: \"4 start 0 task 0 run 0 due 5\": breaks; \"4 start 0 idle\" could stand here | 4 start 0 task 0 run 0 due 5\n\
-         p:3: \"5 start 0 task 0 run 0 due 5\": breaks; \"5 clock\" or \"4 start 0 idle\" could stand here | 5 start 0 task 0 run 0 due 5",
-    )
-}
-
-#[test]
-fn starts_and_finishes_of_the_wrong_worker(rt: HostRuntime) -> Result<(), Fail> {
-    tell(
-        &rt,
-        ONE_DELAY,
-        "0 submit 0 schedule due 5\n5 clock\n5 start 0 task 0 run 0 due 5\n",
-        "p:4: \"5 start 0 idle\": breaks; \"5 finish 0 task 0 run 0 done 0\" or \"5 error busy\" could stand here | 5 start 0 idle\n\
-         p:4: \"5 finish 1 task 0 run 0 done 7\": breaks; \"5 error no worker\" could stand here | 5 finish 1 task 0 run 0 done 7",
-    )?;
-    tell(
-        &rt,
-        ONE_DELAY,
-        "0 submit 0 schedule due 5\n5 clock\n",
-        "p:3: \"5 finish 0 task 0 run 0 done 7\": breaks; \"5 start 0 task 0 run 0 due 5\" or \"5 error not running\" could stand here | 5 finish 0 task 0 run 0 done 7",
-    )
-}
-
-#[test]
-fn finishes(rt: HostRuntime) -> Result<(), Fail> {
-    tell(
-        &rt,
-        A_RATE,
-        "0 submit 0 rate due 10\n25 clock\n25 start 0 task 0 run 0 due 10\n",
-        "p:4: \"25 finish 0 task 0 run 0 again due 35\": breaks; \"25 finish 0 task 0 run 0 again due 20\" could stand here | 25 finish 0 task 0 run 0 again due 35\n\
-         p:4: \"25 finish 0 task 0 run 0 done 7\": breaks; \"25 finish 0 task 0 run 0 again due 20\" could stand here | 25 finish 0 task 0 run 0 done 7\n\
-         p:4: \"25 finish 0 task 0 run 1 failed 3\": breaks; \"25 finish 0 task 0 run 0 failed 3\" could stand here | 25 finish 0 task 0 run 1 failed 3\n\
-         p:4: \"25 finish 0 task 0 run 0 dropped\": breaks; \"25 finish 0 task 0 run 0 again due 20\" could stand here | 25 finish 0 task 0 run 0 dropped",
-    )?;
-    tell(
-        &rt,
-        ONE_DELAY,
-        "0 submit 0 schedule due 5\n5 clock\n5 start 0 task 0 run 0 due 5\n",
-        "p:4: \"5 finish 0 task 0 run 1 done 7\": breaks; \"5 finish 0 task 0 run 0 done 7\" could stand here | 5 finish 0 task 0 run 1 done 7\n\
-         p:4: \"5 finish 0 task 0 run 0 again due 9\": breaks; \"5 finish 0 task 0 run 0 done 0\" could stand here | 5 finish 0 task 0 run 0 again due 9",
-    )
-}
-
-#[test]
-fn clocks(rt: HostRuntime) -> Result<(), Fail> {
-    tell(
-        &rt,
-        ONE_DELAY,
-        "",
-        "p:1: \"0 clock\": breaks; \"0 submit 0 schedule due 5\" could stand here | 0 clock\n\
-         p:1: \"7 clock\": breaks; \"0 submit 0 schedule due 5\" could stand here | 7 clock\n\
-         p:3: \"3 clock\": breaks; \"5 error backward\" or \"5 clock\" could stand here | 0 submit 0 schedule due 5 / 5 clock / 3 clock\n\
-         p:3: \"4611686018427387905 clock\": breaks; \"5 error too far\" could stand here | 0 submit 0 schedule due 5 / 5 clock / 4611686018427387905 clock",
-    )
-}
-
-#[test]
-fn cancels_from_outside(rt: HostRuntime) -> Result<(), Fail> {
-    tell(
-        &rt,
-        ONE_DELAY,
-        "0 submit 0 schedule due 5\n3 clock\n",
-        "p:3: \"3 outside 0 no\": breaks; \"3 outside 0 yes\" could stand here | 3 outside 0 no\n\
-         p:4: \"3 outside 0 yes\": breaks; \"3 outside 0 no\" could stand here | 3 outside 0 yes / 3 outside 0 yes\n\
-         p:3: \"3 outside 1 yes\": breaks; \"3 error no task\" could stand here | 3 outside 1 yes\n\
-         p:3: \"4 outside 0 yes\": breaks; \"4 clock\" or \"3 outside 0 yes\" could stand here | 4 outside 0 yes",
-    )
-}
-
-#[test]
-fn errors(rt: HostRuntime) -> Result<(), Fail> {
-    tell(
-        &rt,
-        ONE_DELAY,
-        "0 submit 0 schedule due 5\n3 clock\n",
-        "p:3: \"3 error busy\": breaks; \"3 start 0 idle\" could stand here | 3 error busy\n\
-         p:3: \"2 error not running\": breaks; \"3 start 0 idle\" or \"3 error not running\" could stand here | 2 error not running\n\
-         p:3: \"2 error backward\": breaks; \"3 error backward\" or \"3 clock\" could stand here | 2 error backward\n\
-         p:3: \"4 error too far\": breaks; \"4 clock\" or \"3 error too far\" could stand here | 4 error too far\n\
-         p:3: \"2 error no worker\": breaks; \"3 error no worker\" could stand here | 2 error no worker\n\
-         p:3: \"2 error no task\": breaks; \"3 error no task\" could stand here | 2 error no task",
-    )
-}
+/// Tables of texts that are held against `A_RATE`.
+pub const OF_A_RATE: &str = "\
+    finishes | 0 submit 0 rate due 10 / 25 clock / 25 start 0 task 0 run 0 due 10 / \n\
+    p:4: \"25 finish 0 task 0 run 0 again due 35\": breaks; \"25 finish 0 task 0 run 0 again due 20\" could stand here | 25 finish 0 task 0 run 0 again due 35\n\
+    p:4: \"25 finish 0 task 0 run 0 done 7\": breaks; \"25 finish 0 task 0 run 0 again due 20\" could stand here | 25 finish 0 task 0 run 0 done 7\n\
+    p:4: \"25 finish 0 task 0 run 1 failed 3\": breaks; \"25 finish 0 task 0 run 0 failed 3\" could stand here | 25 finish 0 task 0 run 1 failed 3\n\
+    p:4: \"25 finish 0 task 0 run 0 dropped\": breaks; \"25 finish 0 task 0 run 0 again due 20\" could stand here | 25 finish 0 task 0 run 0 dropped";

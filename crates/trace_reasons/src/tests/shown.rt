@@ -1,10 +1,16 @@
 //! Reasons in one line.
 
-use super::{ONE_DELAY, tell};
+use super::ONE_DELAY;
 use crate::reason_of_trace;
 use crate::told::Numbers;
 use plan_read::read_plan;
 use std::test::Fail;
+
+/// Tables of texts that are held against `ONE_DELAY`.
+pub const TABLES: &str = "\
+    long lines are cut | 0 submit 0 schedule due 5 / \n\
+    p:2: \"a234567890b234567890c234567890d234567890\": no such line; \"0 clock\" or \"0 start 0 idle\" could stand here | a234567890b234567890c234567890d234567890\n\
+    p:2: \"a234567890b234567890c234567890d234567890\"...: no such line; \"0 clock\" or \"0 start 0 idle\" could stand here | a234567890b234567890c234567890d2345678901";
 
 #[test]
 fn numbers_in_runs(rt: HostRuntime) -> Result<(), Fail> {
@@ -20,17 +26,6 @@ fn numbers_in_runs(rt: HostRuntime) -> Result<(), Fail> {
     assert_eq!(rt; Numbers(&[7]).to_string(alloc)?.as_str(), "7");
     assert_eq!(rt; Numbers(&[]).to_string(alloc)?.as_str(), "");
     Ok(())
-}
-
-#[test]
-fn long_lines_are_cut(rt: HostRuntime) -> Result<(), Fail> {
-    tell(
-        &rt,
-        ONE_DELAY,
-        "0 submit 0 schedule due 5\n",
-        "p:2: \"a234567890b234567890c234567890d234567890\": no such line; \"0 clock\" or \"0 start 0 idle\" could stand here | a234567890b234567890c234567890d234567890\n\
-         p:2: \"a234567890b234567890c234567890d234567890\"...: no such line; \"0 clock\" or \"0 start 0 idle\" could stand here | a234567890b234567890c234567890d2345678901",
-    )
 }
 
 #[test]

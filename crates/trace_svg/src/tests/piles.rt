@@ -5,16 +5,10 @@ use std::test::Fail;
 
 /// Two runs in one pile without room for its label, a third that begins where these end, and one with room for its label.
 const TWO: &str = "\
-0 start 0 task 0 run 0 due 0
-9 finish 0 task 0 run 0 failed 1
-10 start 0 task 1 run 0 due 9
-19 finish 0 task 1 run 0 done 2
-40 start 0 task 2 run 0 due 9
-49 finish 0 task 2 run 0 done 2
-1000 start 0 task 3 run 12 due 9
-2000 finish 0 task 3 run 12 done 2
-10600 clock
-";
+    0 start 0 task 0 run 0 due 0\n9 finish 0 task 0 run 0 failed 1\n\
+    10 start 0 task 1 run 0 due 9\n19 finish 0 task 1 run 0 done 2\n\
+    40 start 0 task 2 run 0 due 9\n49 finish 0 task 2 run 0 done 2\n\
+    1000 start 0 task 3 run 12 due 9\n2000 finish 0 task 3 run 12 done 2\n10600 clock\n";
 
 /// How they are drawn.
 const TWO_DRAWN: &str = "\
@@ -40,13 +34,9 @@ const TWO_DRAWN: &str = "\
 
 /// Three runs in one pile with room for its label, of which the last is under way.
 const THREE: &str = "\
-0 start 1 task 0 run 0 due 0
-9 finish 1 task 0 run 0 done 1
-10 start 1 task 1 run 0 due 9
-19 finish 1 task 1 run 0 ended
-20 start 1 task 2 run 0 due 9
-10600 clock
-";
+    0 start 1 task 0 run 0 due 0\n9 finish 1 task 0 run 0 done 1\n\
+    10 start 1 task 1 run 0 due 9\n19 finish 1 task 1 run 0 ended\n\
+    20 start 1 task 2 run 0 due 9\n10600 clock\n";
 
 /// How they are drawn.
 const THREE_DRAWN: &str = "\
@@ -65,16 +55,11 @@ const THREE_DRAWN: &str = "\
 
 /// Two runs of each of two workers, in turn, in piles without room for their labels.
 const LANES: &str = "\
-0 start 0 task 0 run 0 due 0
-0 start 1 task 1 run 0 due 0
-5 finish 0 task 0 run 0 done 1
-5 finish 1 task 1 run 0 again due 20
-5 start 0 task 2 run 0 due 0
-5 start 1 task 3 run 0 due 0
-7 finish 0 task 2 run 0 dropped
-7 finish 1 task 3 run 0 again due 30
-10600 clock
-";
+    0 start 0 task 0 run 0 due 0\n0 start 1 task 1 run 0 due 0\n\
+    5 finish 0 task 0 run 0 done 1\n5 finish 1 task 1 run 0 again due 20\n\
+    5 start 0 task 2 run 0 due 0\n5 start 1 task 3 run 0 due 0\n\
+    7 finish 0 task 2 run 0 dropped\n7 finish 1 task 3 run 0 again due 30\n\
+    10600 clock\n";
 
 /// How they are drawn.
 const LANES_DRAWN: &str = "\

@@ -5,16 +5,9 @@ use std::test::Fail;
 
 /// A mark alone, two and three in two rows at one place, and two that stand one pixel apart.
 const FEW: &str = "\
-0 clock
-100 submit 0 schedule due 5
-101 ask queue 1 running 0 shutdown no terminated no
-105 refuse 1 rejected
-108 policy remove true
-109 shutdown
-109 clock
-110 clock
-10600 clock
-";
+    0 clock\n100 submit 0 schedule due 5\n\
+    101 ask queue 1 running 0 shutdown no terminated no\n105 refuse 1 rejected\n\
+    108 policy remove true\n109 shutdown\n109 clock\n110 clock\n10600 clock\n";
 
 /// How they are drawn.
 const FEW_DRAWN: &str = "\
@@ -46,20 +39,9 @@ const FEW_DRAWN: &str = "\
 
 /// Twelve marks of a row at one place.
 const MANY: &str = "\
-0 start 0 idle
-0 start 0 idle
-0 start 0 idle
-0 start 0 idle
-1 error busy
-1 error busy
-1 error busy
-1 error busy
-2 start 1 idle
-2 start 1 idle
-2 start 1 idle
-2 start 1 idle
-10600 clock
-";
+    0 start 0 idle\n0 start 0 idle\n0 start 0 idle\n0 start 0 idle\n\
+    1 error busy\n1 error busy\n1 error busy\n1 error busy\n\
+    2 start 1 idle\n2 start 1 idle\n2 start 1 idle\n2 start 1 idle\n10600 clock\n";
 
 /// How the top one is drawn, and their number.
 const MANY_DRAWN: &str = "\

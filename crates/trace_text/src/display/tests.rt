@@ -1,31 +1,20 @@
 //! Lines and words by hand.
 use crate::display::{LineText, kind_word};
-use executor_model::{Answer, Kind, Line, Message, Outcome};
+use crate::tests::{LONGEST, longest};
+use executor_model::{Answer, Kind, Line, Message};
 use std::process::Abort;
 use std::test::Fail;
 
 #[test]
 fn lines_are_shown_as_they_are_written(rt: HostRuntime) -> Result<(), Fail> {
-    let last = Answer::Finish {
-        worker: u8::MAX,
-        task: u32::MAX,
-        run: u64::MAX,
-        outcome: Outcome::Again(u64::MAX),
-    };
-    for (moment, message, text) in [
-        (5, Message::End(3), "5 end 3\n"),
-        (0, Message::Answer(Answer::Clock), "0 clock\n"),
-        (
-            u64::MAX,
-            Message::Answer(last),
-            "18446744073709551615 finish 255 task 4294967295 run 18446744073709551615 again due 18446744073709551615\n",
-        ),
+    let clock = Message::Answer(Answer::Clock);
+    for (line, text) in [
+        (Line::new(5, Message::End(3)), "5 end 3\n"),
+        (Line::new(0, clock), "0 clock\n"),
+        (longest(), LONGEST),
     ] {
-        let shown = LineText(Line::new(moment, message));
-        assert!(rt;
-            format!(in rt.alloc(); "{shown}")?.as_str() == text,
-            "{text}"
-        );
+        let shown = format!(in rt.alloc(); "{}", LineText(line))?;
+        assert!(rt; shown.as_str() == text, "{text}");
     }
     Ok(())
 }

@@ -6,9 +6,9 @@ use executor_model::Event;
 use sched_time::Ending;
 use std::process::Abort;
 
-/// Checks that none of the lines is an event.
-fn refuses(rt: &impl Abort, lines: &[&str]) {
-    for line in lines {
+/// Checks that none of the lines, between which `|` stands, is an event.
+fn refuses(rt: &impl Abort, lines: &str) {
+    for line in lines.split('|') {
         let read = read_event(line.as_bytes());
         assert!(rt; read.is_none(), "{line}: {read:?}");
     }
@@ -43,26 +43,9 @@ fn reads_each_event(rt: HostRuntime) {
 fn refuses_other_clocks_and_starts(rt: HostRuntime) {
     refuses(
         &rt,
-        &[
-            "",
-            "\n",
-            "clock\n",
-            "clock \n",
-            "clock 05\n",
-            "clock +5\n",
-            "clock 5 \n",
-            "clock  5\n",
-            " clock 5\n",
-            "clock 5",
-            "clock 5\n\n",
-            "clock 5\nclock 6\n",
-            "clock 5\r\n",
-            "clock\t5\n",
-            "Clock 5\n",
-            "clock 18446744073709551616\n",
-            "start 256\n",
-            "start -1\n",
-        ],
+        "|\n|clock\n|clock \n|clock 05\n|clock +5\n|clock 5 \n|clock  5\n| clock 5\n|clock 5\
+         |clock 5\n\n|clock 5\nclock 6\n|clock 5\r\n|clock\t5\n|Clock 5\n\
+         |clock 18446744073709551616\n|start 256\n|start -1\n",
     );
 }
 
@@ -70,21 +53,9 @@ fn refuses_other_clocks_and_starts(rt: HostRuntime) {
 fn refuses_other_cancels(rt: HostRuntime) {
     refuses(
         &rt,
-        &[
-            "cancel\n",
-            "cancel \n",
-            "cancel 07\n",
-            "cancel -1\n",
-            "cancel  1\n",
-            "cancel 1 \n",
-            "cancel 1 yes\n",
-            " cancel 1\n",
-            "Cancel 1\n",
-            "cancels 1\n",
-            "cancel1\n",
-            "cancel 4294967296\n",
-            "cancel 18446744073709551616\n",
-        ],
+        "cancel\n|cancel \n|cancel 07\n|cancel -1\n|cancel  1\n|cancel 1 \n|cancel 1 yes\n\
+         | cancel 1\n|Cancel 1\n|cancels 1\n|cancel1\n|cancel 4294967296\n\
+         |cancel 18446744073709551616\n",
     );
 }
 
@@ -92,16 +63,8 @@ fn refuses_other_cancels(rt: HostRuntime) {
 fn refuses_other_finishes(rt: HostRuntime) {
     refuses(
         &rt,
-        &[
-            "finish 3\n",
-            "finish 3 ok\n",
-            "finish 3 ok \n",
-            "finish 256 ok 1\n",
-            "finish 03 ok 1\n",
-            "finish 3  ok 1\n",
-            "finish 3 ok 1 \n",
-            "finish 3 ok 18446744073709551616\n",
-        ],
+        "finish 3\n|finish 3 ok\n|finish 3 ok \n|finish 256 ok 1\n|finish 03 ok 1\n\
+         |finish 3  ok 1\n|finish 3 ok 1 \n|finish 3 ok 18446744073709551616\n",
     );
 }
 
@@ -109,21 +72,10 @@ fn refuses_other_finishes(rt: HostRuntime) {
 fn refuses_other_failures(rt: HostRuntime) {
     refuses(
         &rt,
-        &[
-            "finish 3 fail 4294967296\n",
-            "finish 3 fail 18446744073709551616\n",
-            "finish 3 fail\n",
-            "finish 3 fail \n",
-            "finish 3 fail 01\n",
-            "finish 3 fail -1\n",
-            "finish 3 fail  1\n",
-            "finish 3 fail 1 \n",
-            "finish 3 fail1\n",
-            "finish 3 failed 1\n",
-            "finish 3 Fail 1\n",
-            "finish 256 fail 1\n",
-            "finish fail 1\n",
-        ],
+        "finish 3 fail 4294967296\n|finish 3 fail 18446744073709551616\n|finish 3 fail\n\
+         |finish 3 fail \n|finish 3 fail 01\n|finish 3 fail -1\n|finish 3 fail  1\n\
+         |finish 3 fail 1 \n|finish 3 fail1\n|finish 3 failed 1\n|finish 3 Fail 1\n\
+         |finish 256 fail 1\n|finish fail 1\n",
     );
 }
 
@@ -152,27 +104,10 @@ fn reads_numbers_of_each_length(rt: HostRuntime) {
 fn reads_no_number_of_another_form(rt: HostRuntime) {
     refuses(
         &rt,
-        &[
-            "clock 18446744073709551616\n",
-            "clock 18446744073709551620\n",
-            "clock 28446744073709551615\n",
-            "clock 99999999999999999999\n",
-            "clock 184467440737095516150\n",
-            "clock 000000000000000000001\n",
-            "clock 00\n",
-            "clock 1844674407370955161:\n",
-            "clock 1844674407370955161/\n",
-            "start 007\n",
-            "start  7\n",
-            "start\t7\n",
-            "start 7\r\n",
-            "start 7\n ",
-            "start 7",
-            "finish 0\tok 1\n",
-            "finish 0 ok  1\n",
-            "finish 0 ok 01\n",
-            "finish 0 ok 1",
-            "finish 0 ok 1\n\n",
-        ],
+        "clock 18446744073709551616\n|clock 18446744073709551620\n|clock 28446744073709551615\n\
+         |clock 99999999999999999999\n|clock 184467440737095516150\n|clock 000000000000000000001\n\
+         |clock 00\n|clock 1844674407370955161:\n|clock 1844674407370955161/\n|start 007\n\
+         |start  7\n|start\t7\n|start 7\r\n|start 7\n |start 7|finish 0\tok 1\n|finish 0 ok  1\n\
+         |finish 0 ok 01\n|finish 0 ok 1|finish 0 ok 1\n\n",
     );
 }

@@ -2,35 +2,16 @@
 ghost use Rattle.std.specs.Prelude.{◌<◌, length};
 
 use crate::line::{read_line, split_line};
-use crate::line_text::write_line;
 use executor_model::{Answer, Line, Message};
 use std::process::Abort;
 use std::test::Fail;
 
+mod forms;
 mod others;
-mod runs;
-mod tasks;
-mod words;
 
-/// Checks that a text is read as the line of an answer, and that the line is written so.
-fn reads(rt: &(impl AllocGlobal + Abort), moment: u64, answer: Answer, text: &str) {
-    reads_message(rt, moment, Message::Answer(answer), text);
-}
-
-/// Checks that a text is read as a line, and that the line is written so.
-fn reads_message(rt: &(impl AllocGlobal + Abort), moment: u64, message: Message, text: &str) {
-    let line = Line::new(moment, message);
-    let read = read_line(text.as_bytes());
-    assert!(rt; read == Some(line), "{text}: {read:?}");
-    let mut out = Vec::new(rt.alloc());
-    let said = write_line(&mut out, &line);
-    assert!(rt; said.is_ok(), "{text}");
-    assert!(rt; out.as_slice() == text.as_bytes(), "{text}");
-}
-
-/// Checks that none of the texts is a line.
-fn refuses(rt: &impl Abort, texts: &[&str]) {
-    for text in texts {
+/// Checks that none of the texts, between which `|` stands, is a line.
+fn refuses(rt: &impl Abort, texts: &str) {
+    for text in texts.split('|') {
         let read = read_line(text.as_bytes());
         assert!(rt; read.is_none(), "{text}: {read:?}");
     }

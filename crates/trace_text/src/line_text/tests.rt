@@ -1,111 +1,82 @@
 //! Lines of a trace by hand.
-use crate::line_text::{LINE_ROOM, put_line_here, write_line};
-use crate::stamp::Stamp;
-use executor_model::{Answer, CancelEffect, EventError, Kind, Line, Message, Outcome, Refusal};
+use crate::tests::is_line;
+use crate::tests::messages::{
+    ask, cancel, error, finish, idle, outside, policy, refuse, start, submit,
+};
+use executor_model::{Answer, CancelEffect, EventError, Kind, Message, Outcome, Refusal};
 use sched_time::Which;
-use std::process::Abort;
 
 mod heaps;
 
-/// Checks the text of the line of an answer.
-fn writes(rt: &(impl AllocGlobal + Abort), moment: u64, answer: Answer, text: &str) {
-    writes_message(rt, moment, Message::Answer(answer), text);
-}
-
-/// Checks the text of one line.
-fn writes_message(rt: &(impl AllocGlobal + Abort), moment: u64, message: Message, text: &str) {
-    let mut out = Vec::new(rt.alloc());
-    let line = Line::new(moment, message);
-    let said = write_line(&mut out, &line);
-    assert!(rt; said.is_ok(), "{text}");
-    assert!(rt; out.as_slice() == text.as_bytes(), "{text}");
-    let mut buffer = [0u8; LINE_ROOM];
-    let end = put_line_here(&mut buffer, 0, &mut Stamp::new(moment), &line);
-    assert!(rt; &buffer[..end] == text.as_bytes(), "{text}");
-}
-
 #[test]
-fn writes_submissions(rt: HostRuntime) {
-    for (kind, due, text) in [
-        (Kind::Schedule, 5, "0 submit 0 schedule due 5\n"),
-        (Kind::Rate, 10, "0 submit 0 rate due 10\n"),
-        (Kind::Fixed, 10, "0 submit 0 fixed due 10\n"),
-    ] {
-        writes(&rt, 0, Answer::Submit { task: 0, kind, due }, text);
-    }
-    let last = Answer::Submit {
-        task: u32::MAX,
-        kind: Kind::Schedule,
-        due: 12,
-    };
-    writes(&rt, 7, last, "7 submit 4294967295 schedule due 12\n");
-}
-
-#[test]
-fn writes_each_refusal(rt: HostRuntime) {
-    for (task, refusal, text) in [
-        (1, Refusal::Illegal, "0 refuse 1 illegal\n"),
-        (0, Refusal::Rejected, "0 refuse 0 rejected\n"),
+fn lines_of_tasks(rt: HostRuntime) {
+    for (moment, message, text) in [
         (
-            u32::MAX,
-            Refusal::Rejected,
+            0,
+            submit(0, Kind::Schedule, 5),
+            "0 submit 0 schedule due 5\n",
+        ),
+        (0, submit(0, Kind::Rate, 10), "0 submit 0 rate due 10\n"),
+        (0, submit(0, Kind::Fixed, 10), "0 submit 0 fixed due 10\n"),
+        (
+            7,
+            submit(u32::MAX, Kind::Schedule, 12),
+            "7 submit 4294967295 schedule due 12\n",
+        ),
+        (0, refuse(1, Refusal::Illegal), "0 refuse 1 illegal\n"),
+        (
+            0,
+            refuse(u32::MAX, Refusal::Rejected),
             "0 refuse 4294967295 rejected\n",
         ),
-    ] {
-        writes(&rt, 0, Answer::Refuse { task, refusal }, text);
-    }
-}
-
-#[test]
-fn writes_cancels(rt: HostRuntime) {
-    for (effect, text, outside) in [
-        (CancelEffect::Yes, "7 cancel 3 yes\n", "7 outside 3 yes\n"),
-        (CancelEffect::No, "7 cancel 3 no\n", "7 outside 3 no\n"),
+        (7, cancel(3, CancelEffect::Yes), "7 cancel 3 yes\n"),
+        (7, cancel(3, CancelEffect::No), "7 cancel 3 no\n"),
+        (7, cancel(3, CancelEffect::Absent), "7 cancel 3 none\n"),
+        (7, outside(3, CancelEffect::Yes), "7 outside 3 yes\n"),
+        (7, outside(3, CancelEffect::No), "7 outside 3 no\n"),
+        (7, outside(3, CancelEffect::Absent), "7 outside 3 none\n"),
         (
-            CancelEffect::Absent,
-            "7 cancel 3 none\n",
-            "7 outside 3 none\n",
+            0,
+            outside(u32::MAX, CancelEffect::Absent),
+            "0 outside 4294967295 none\n",
         ),
     ] {
-        writes(&rt, 7, Answer::Cancel { task: 3, effect }, text);
-        writes(&rt, 7, Answer::Outside { task: 3, effect }, outside);
+        is_line(&rt, moment, message, text);
     }
-    let last = Answer::Outside {
-        task: u32::MAX,
-        effect: CancelEffect::Absent,
-    };
-    writes(&rt, 0, last, "0 outside 4294967295 none\n");
 }
 
 #[test]
-fn writes_policies(rt: HostRuntime) {
-    for (which, value, text) in [
-        (Which::Continue, true, "7 policy continue true\n"),
-        (Which::Continue, false, "7 policy continue false\n"),
-        (Which::Execute, true, "7 policy execute true\n"),
-        (Which::Execute, false, "7 policy execute false\n"),
-        (Which::Remove, true, "7 policy remove true\n"),
-        (Which::Remove, false, "7 policy remove false\n"),
+fn lines_of_the_executor(rt: HostRuntime) {
+    let clock = Message::Answer(Answer::Clock);
+    let again = Message::Answer(Answer::ShutdownAgain);
+    let now = Message::Answer(Answer::ShutdownNow);
+    for (moment, message, text) in [
+        (7, clock, "7 clock\n"),
+        (9, again, "9 shutdown again\n"),
+        (u64::MAX, now, "18446744073709551615 shutdown now\n"),
+        (7, policy(Which::Continue, true), "7 policy continue true\n"),
+        (
+            7,
+            policy(Which::Continue, false),
+            "7 policy continue false\n",
+        ),
+        (7, policy(Which::Execute, true), "7 policy execute true\n"),
+        (7, policy(Which::Execute, false), "7 policy execute false\n"),
+        (7, policy(Which::Remove, true), "7 policy remove true\n"),
+        (7, policy(Which::Remove, false), "7 policy remove false\n"),
+        (7, error(EventError::Backward), "7 error backward\n"),
+        (7, error(EventError::TooFar), "7 error too far\n"),
+        (7, error(EventError::NoWorker), "7 error no worker\n"),
+        (7, error(EventError::Busy), "7 error busy\n"),
+        (7, error(EventError::NotRunning), "7 error not running\n"),
+        (7, error(EventError::NoTask), "7 error no task\n"),
     ] {
-        writes(&rt, 7, Answer::Policy { which, value }, text);
+        is_line(&rt, moment, message, text);
     }
 }
 
 #[test]
-fn writes_shutdowns(rt: HostRuntime) {
-    writes(&rt, 0, Answer::Shutdown, "0 shutdown\n");
-    writes(&rt, 9, Answer::ShutdownAgain, "9 shutdown again\n");
-    writes(&rt, 0, Answer::ShutdownNow, "0 shutdown now\n");
-    writes(
-        &rt,
-        u64::MAX,
-        Answer::ShutdownNow,
-        "18446744073709551615 shutdown now\n",
-    );
-}
-
-#[test]
-fn writes_how_far_the_executor_is(rt: HostRuntime) {
+fn lines_of_how_far_the_executor_is(rt: HostRuntime) {
     for (queue, running, shutdown, terminated, text) in [
         (
             0,
@@ -136,103 +107,42 @@ fn writes_how_far_the_executor_is(rt: HostRuntime) {
             "3 ask queue 4294967295 running 4294967295 shutdown no terminated yes\n",
         ),
     ] {
-        let ask = Answer::Ask {
-            queue,
-            running,
-            shutdown,
-            terminated,
-        };
-        writes(&rt, 3, ask, text);
+        is_line(&rt, 3, ask(queue, running, shutdown, terminated), text);
     }
-    let longest = Answer::Ask {
-        queue: u32::MAX,
-        running: u32::MAX,
-        shutdown: true,
-        terminated: true,
-    };
-    writes(
-        &rt,
-        u64::MAX,
-        longest,
-        "18446744073709551615 ask queue 4294967295 running 4294967295 shutdown yes terminated yes\n",
-    );
 }
 
 #[test]
-fn writes_ends(rt: HostRuntime) {
-    writes_message(&rt, 0, Message::End(0), "0 end 0\n");
-    writes_message(
-        &rt,
-        u64::MAX,
-        Message::End(u32::MAX),
-        "18446744073709551615 end 4294967295\n",
-    );
-}
-
-#[test]
-fn writes_clocks_and_starts(rt: HostRuntime) {
-    let start = Answer::Start {
-        worker: 255,
-        task: 3,
-        run: 1,
-        due: 9,
-    };
-    writes(&rt, 7, Answer::Clock, "7 clock\n");
-    writes(&rt, 7, start, "7 start 255 task 3 run 1 due 9\n");
-    writes(&rt, 7, Answer::Idle { worker: 2 }, "7 start 2 idle\n");
-}
-
-#[test]
-fn writes_each_outcome(rt: HostRuntime) {
-    for (outcome, text) in [
+fn lines_of_runs(rt: HostRuntime) {
+    for (moment, message, text) in [
+        (7, idle(2), "7 start 2 idle\n"),
+        (7, start(2, 3, 4, 5), "7 start 2 task 3 run 4 due 5\n"),
+        (7, start(255, 3, 1, 9), "7 start 255 task 3 run 1 due 9\n"),
         (
-            Outcome::Done(u64::MAX),
-            "25 finish 0 task 3 run 1 done 18446744073709551615\n",
+            25,
+            finish(0, 3, 1, Outcome::Failed(3)),
+            "25 finish 0 task 3 run 1 failed 3\n",
         ),
-        (Outcome::Failed(3), "25 finish 0 task 3 run 1 failed 3\n"),
         (
-            Outcome::Again(20),
+            25,
+            finish(0, 3, 1, Outcome::Again(20)),
             "25 finish 0 task 3 run 1 again due 20\n",
         ),
-        (Outcome::Dropped, "25 finish 0 task 3 run 1 dropped\n"),
-        (Outcome::Ended, "25 finish 0 task 3 run 1 ended\n"),
+        (
+            25,
+            finish(0, 3, 1, Outcome::Dropped),
+            "25 finish 0 task 3 run 1 dropped\n",
+        ),
+        (
+            25,
+            finish(0, 3, 1, Outcome::Ended),
+            "25 finish 0 task 3 run 1 ended\n",
+        ),
+        (
+            25,
+            finish(0, 3, 1, Outcome::Done(u64::MAX)),
+            "25 finish 0 task 3 run 1 done 18446744073709551615\n",
+        ),
     ] {
-        let finish = Answer::Finish {
-            worker: 0,
-            task: 3,
-            run: 1,
-            outcome,
-        };
-        writes(&rt, 25, finish, text);
+        is_line(&rt, moment, message, text);
     }
-}
-
-#[test]
-fn writes_each_error(rt: HostRuntime) {
-    for (error, text) in [
-        (EventError::Backward, "7 error backward\n"),
-        (EventError::TooFar, "7 error too far\n"),
-        (EventError::NoWorker, "7 error no worker\n"),
-        (EventError::Busy, "7 error busy\n"),
-        (EventError::NotRunning, "7 error not running\n"),
-        (EventError::NoTask, "7 error no task\n"),
-    ] {
-        writes(&rt, 7, Answer::Error(error), text);
-    }
-}
-
-#[test]
-fn writes_the_longest_line(rt: HostRuntime) {
-    let longest = Answer::Finish {
-        worker: 255,
-        task: u32::MAX,
-        run: u64::MAX,
-        outcome: Outcome::Again(u64::MAX),
-    };
-    writes(
-        &rt,
-        u64::MAX,
-        longest,
-        "18446744073709551615 finish 255 task 4294967295 run 18446744073709551615 again due 18446744073709551615\n",
-    );
 }

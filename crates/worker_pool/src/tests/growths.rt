@@ -173,8 +173,7 @@ fn shown_by<N: Named, A: HeapAllocator>(
     handles: &mut Handles<'_, N, A>,
 ) -> Result<Shown, Fail> {
     let happened = happenings_of(alloc, book)?;
-    let mut lines = Vec::new(alloc);
-    lines.extend_from_slice(book.lines())?;
+    let lines = book.lines().to_vec(alloc)?;
     let mut states = Vec::new(alloc);
     for handle in handles.iter_mut().flatten() {
         for task in 0..MOST_TASKS {

@@ -13,10 +13,10 @@ ghost use Rattle.queue_code.specs.Calls.{task_count};
 ghost use Rattle.queue_code.specs.Codes.{calls_of};
 ghost use Rattle.task_word.specs.Views.{new_core};
 
+use super::{AMPLE, check_lines, code_of, found};
 use crate::{Applied, Book, Handle, Job, Named, Pool, PoolError, Shared};
 use executor_model::{Answer, Line, Message, Outcome};
-use plan_compile::compile;
-use plan_read::{Plan, read_plan};
+use plan_read::Plan;
 use queue_code::Code;
 use result_cell::Verdict;
 use sched_time::Ending;
@@ -30,8 +30,7 @@ use std::thread;
 use std::thread::Threads;
 use std::time::{Clock, Duration};
 use task_word::CoreSeat;
-use trace_check::{Finding, MOST_BYTES, check};
-use trace_text::write_line;
+use trace_check::Finding;
 
 /// How often a test looks whether what it waits for came, before it gives up.
 const MOST_LOADS: u64 = 1_000_000_000;
@@ -102,11 +101,6 @@ enum Said {
     Advanced(Result<Applied, PoolError>),
 }
 
-/// The moment that a word spells.
-fn moment_of(word: &str) -> Result<u64, Fail> {
-    Ok(word.parse::<u64>()?)
-}
-
 /// The calls of a script, a line for each: `run` and moments, or `advance` and a moment. What they are answered may stand behind ` | `.
 fn read_calls(alloc: Global, script: &str) -> Result<Vec<Call>, Fail> {
     let mut calls = Vec::new(alloc);
@@ -116,7 +110,7 @@ fn read_calls(alloc: Global, script: &str) -> Result<Vec<Call>, Fail> {
         let verb = words.next().unwrap_or("");
         let mut moments = Vec::new(alloc);
         for word in words {
-            moments.push(moment_of(word)?)?;
+            moments.push(word.parse::<u64>()?)?;
         }
         calls.push(if verb == "run" {
             Call::Run(moments)
@@ -152,17 +146,6 @@ struct Played {
     lines: Vec<Line>,
 }
 
-/// The text of some lines.
-fn text_of(alloc: Global, lines: &[Line]) -> Result<Vec<u8>, AllocError> {
-    let mut text = Vec::new(alloc);
-    for line in lines {
-        if write_line(&mut text, line).is_err() {
-            return Err(AllocError);
-        }
-    }
-    Ok(text)
-}
-
 /// Checks some lines by the plan alone.
 fn conforms(
     rt: &(impl Abort + AllocGlobal),
@@ -170,9 +153,7 @@ fn conforms(
     workers: u8,
     lines: &[Line],
 ) -> Result<(), Fail> {
-    let text = text_of(rt.alloc(), lines)?;
-    assert!(rt; text.len() <= MOST_BYTES);
-    let finding = check(rt.alloc(), plan, workers, &text)?;
+    let finding = found(rt, rt.alloc(), plan, workers, lines)?;
     assert!(rt; finding == Finding::Conforms, "{finding:?}");
     Ok(())
 }
@@ -186,12 +167,6 @@ fn is_done(line: &Line) -> bool {
             ..
         })
     )
-}
-
-/// The code of a plan's text.
-fn code_of(alloc: Global, plan: &str) -> Result<Code<Global>, Fail> {
-    let plan = read_plan(alloc, plan.as_bytes())?;
-    Ok(compile(alloc, &plan)?)
 }
 
 /// The plan of so many tasks with one run, each submitted at moment 0.
@@ -231,8 +206,7 @@ fn told_by<N: Named>(
         results.push(handle.result(task))?;
         agreed.push(book.agrees(shared, handle, task))?;
     }
-    let mut lines = Vec::new(alloc);
-    lines.extend_from_slice(book.lines())?;
+    let lines = book.lines().to_vec(alloc)?;
     Ok(Played {
         said,
         results,
@@ -267,10 +241,8 @@ fn pool_of<N: Named + Send + Sync, R: Threads + Wait + Sync, J: Job + Sync>(
     }
     let mut book = pool.end();
     let played = told_by(alloc, shared, &mut book, &mut handle, said, tasks)?;
-    match book.retire(shared, handle) {
-        Ok(()) => Ok(played),
-        Err((error, _)) => Err(error.into()),
-    }
+    book.retire(shared, handle).map_err(|(error, _)| error)?;
+    Ok(played)
 }
 
 /// Does the calls with a new pool for a code.

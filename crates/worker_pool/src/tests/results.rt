@@ -1,77 +1,47 @@
 //! The verdicts on tasks that are done or have failed.
-use super::{Row, plays};
+use super::{AMPLE, ONE_TASK, Row, plays};
 use std::test::Fail;
 
-/// The second handle is admitted once the tasks have ended.
-pub const VERDICTS_ARE_READ: Row<'static> = Row {
-    name: "verdicts are read",
-    plan: "version = 1\n[[block]]\ncall = [{ op = 'schedule', name = 'a', delay = 0 }, { op = 'schedule', name = 'b', delay = 0 }, { op = 'rate', name = 'c', first = 0, period = 5 }]",
-    limit: 1_000_000,
-    script: "admit | Admitted
-handle 0 result 0 | Verdict(None)
-handle 0 agrees 0 | Verdict(None)
-clock 0 | Lines(4, None)
-start 0 | Lines(1, Some(Work { task: 0, run: 0 }))
-finish 0 ok 7 | Lines(1, None)
-start 0 | Lines(1, Some(Work { task: 1, run: 0 }))
-finish 0 fail 3 | Lines(1, None)
-start 0 | Lines(1, Some(Work { task: 2, run: 0 }))
-finish 0 ok 9 | Lines(1, None)
-handle 0 result 0 | Verdict(Some(Verdict { task: 0, ending: Value(7) }))
-handle 0 result 1 | Verdict(Some(Verdict { task: 1, ending: Fault(3) }))
-handle 0 result 2 | Verdict(None)
-handle 0 result 3 | Verdict(None)
-handle 0 agrees 0 | Verdict(Some(Verdict { task: 0, ending: Value(7) }))
-handle 0 agrees 1 | Verdict(Some(Verdict { task: 1, ending: Fault(3) }))
-handle 0 agrees 2 | Verdict(None)
-handle 0 agrees 3 | Verdict(None)
-handle 0 result 0 | Verdict(Some(Verdict { task: 0, ending: Value(7) }))
-admit | Admitted
-handle 1 result 0 | Verdict(Some(Verdict { task: 0, ending: Value(7) }))
-handle 1 agrees 1 | Verdict(Some(Verdict { task: 1, ending: Fault(3) }))
-handle 1 result 1 | Verdict(Some(Verdict { task: 1, ending: Fault(3) }))
-handle 1 result 2 | Verdict(None)
-",
-    trace: "0 submit 0 schedule due 0
-0 submit 1 schedule due 0
-0 submit 2 rate due 0
-0 clock
-0 start 0 task 0 run 0 due 0
-0 finish 0 task 0 run 0 done 7
-0 start 0 task 1 run 0 due 0
-0 finish 0 task 1 run 0 failed 3
-0 start 0 task 2 run 0 due 0
-0 finish 0 task 2 run 0 again due 5
-",
-};
-
-pub const A_DROPPED_RUN_HAS_NO_VERDICT: Row<'static> = Row {
-    name: "a dropped run has no verdict",
-    plan: "version = 1\n[[block]]\ncall = [{ op = 'schedule', name = 'a', delay = 0 }]",
-    limit: 1_000_000,
-    script: "admit | Admitted
-clock 0 | Lines(2, None)
-start 0 | Lines(1, Some(Work { task: 0, run: 0 }))
-handle 0 cancel 0 | Cancel(Yes)
-finish 0 ok 7 | Lines(2, None)
-handle 0 result 0 | Verdict(None)
-handle 0 agrees 0 | Verdict(None)
-",
-    trace: "0 submit 0 schedule due 0
-0 clock
-0 start 0 task 0 run 0 due 0
-0 outside 0 yes
-0 finish 0 task 0 run 0 dropped
-",
-};
+pub const ROWS: &[Row<'static>] = &[
+    // The second handle is admitted once the tasks have ended.
+    Row {
+        name: "VERDICTS_ARE_READ",
+        plan: "version = 1\n[[block]]\ncall = [{ op = 'schedule', name = 'a', delay = 0 },\
+               { op = 'schedule', name = 'b', delay = 0 }, { op = 'rate', name = 'c', first = 0, period = 5 }]",
+        script: "admit | Admitted\nhandle 0 result 0 | Verdict(None)\nhandle 0 agrees 0 | Verdict(None)\n\
+                 clock 0 | Lines(4, None)\nstart 0 | Lines(1, Some(Work { task: 0, run: 0 }))\n\
+                 finish 0 ok 7 | Lines(1, None)\nstart 0 | Lines(1, Some(Work { task: 1, run: 0 }))\n\
+                 finish 0 fail 3 | Lines(1, None)\nstart 0 | Lines(1, Some(Work { task: 2, run: 0 }))\n\
+                 finish 0 ok 9 | Lines(1, None)\n\
+                 handle 0 result 0 | Verdict(Some(Verdict { task: 0, ending: Value(7) }))\n\
+                 handle 0 result 1 | Verdict(Some(Verdict { task: 1, ending: Fault(3) }))\n\
+                 handle 0 result 2 | Verdict(None)\nhandle 0 result 3 | Verdict(None)\n\
+                 handle 0 agrees 0 | Verdict(Some(Verdict { task: 0, ending: Value(7) }))\n\
+                 handle 0 agrees 1 | Verdict(Some(Verdict { task: 1, ending: Fault(3) }))\n\
+                 handle 0 agrees 2 | Verdict(None)\nhandle 0 agrees 3 | Verdict(None)\n\
+                 handle 0 result 0 | Verdict(Some(Verdict { task: 0, ending: Value(7) }))\nadmit | Admitted\n\
+                 handle 1 result 0 | Verdict(Some(Verdict { task: 0, ending: Value(7) }))\n\
+                 handle 1 agrees 1 | Verdict(Some(Verdict { task: 1, ending: Fault(3) }))\n\
+                 handle 1 result 1 | Verdict(Some(Verdict { task: 1, ending: Fault(3) }))\n\
+                 handle 1 result 2 | Verdict(None)\n",
+        trace: "0 submit 0 schedule due 0\n0 submit 1 schedule due 0\n0 submit 2 rate due 0\n0 clock\n\
+                0 start 0 task 0 run 0 due 0\n0 finish 0 task 0 run 0 done 7\n0 start 0 task 1 run 0 due 0\n\
+                0 finish 0 task 1 run 0 failed 3\n0 start 0 task 2 run 0 due 0\n0 finish 0 task 2 run 0 again due 5\n",
+    },
+    Row {
+        name: "a dropped run has no verdict",
+        plan: ONE_TASK,
+        script: "admit | Admitted\nclock 0 | Lines(2, None)\nstart 0 | Lines(1, Some(Work { task: 0, run: 0 }))\n\
+                 handle 0 cancel 0 | Cancel(Yes)\nfinish 0 ok 7 | Lines(2, None)\nhandle 0 result 0 | Verdict(None)\n\
+                 handle 0 agrees 0 | Verdict(None)\n",
+        trace: "0 submit 0 schedule due 0\n0 clock\n0 start 0 task 0 run 0 due 0\n0 outside 0 yes\n\
+                0 finish 0 task 0 run 0 dropped\n",
+    },
+];
 
 /// The plan of many tasks.
-const MANY: &str = "version = 1
-[[block]]
-times = 70
-every = 0
-call = [{ op = \"execute\", name = \"a\" }]
-";
+const MANY: &str =
+    "version = 1\n[[block]]\ntimes = 70\nevery = 0\ncall = [{ op = 'execute', name = 'a' }]\n";
 
 /// How the run of a task ends, in the words of an event, of a verdict and of a line.
 fn ending_of(task: u32) -> [&'static str; 3] {
@@ -111,9 +81,8 @@ fn each_of_many_tasks_has_its_verdict(rt: HostRuntime) -> Result<(), Fail> {
     let row = Row {
         name: "each of many tasks has its verdict",
         plan: MANY,
-        limit: 1_000_000,
         script: script.as_str(),
         trace: trace.as_str(),
     };
-    plays(&rt, &row)
+    plays(&rt, &row, AMPLE)
 }

@@ -3,42 +3,27 @@
 ghost use Rattle.std.specs.Prelude.{◌≡◌, IfOk};
 ghost use Rattle.queue_code.specs.Codes.{calls_of};
 
-use super::{Played, Step, Told, play_code};
+use super::{Played, Step, Told, found, play_code};
 use executor_model::{Answer, CancelEffect, Event, Line, Message};
 use executor_plain::trace_of_happenings;
 use plan_compile::compile;
 use plan_read::{Plan, read_plan};
 use queue_code::{Code, CodeCall, Cursor};
 use sched_time::Ending;
-use std::alloc::{AllocError, Allocator, Global};
+use std::alloc::{AllocError, AllocGlobal, Allocator, Global};
 use std::process::Abort;
 use std::test::Fail;
 use task_word::CancelAnswer;
-use trace_check::{Finding, MOST_BYTES, check};
-use trace_text::write_line;
+use trace_check::Finding;
 
 /// The plan of a task with one run, one at a fixed rate, and a shutdown.
-const PLAN: &str = r#"version = 1
-
-[[block]]
-call = [
-  { op = "schedule", name = "a", delay = 0 },
-  { op = "rate", name = "b", first = 0, period = 2 },
-  { op = "shutdown", at = 5 },
-]
-"#;
+const PLAN: &str = "version = 1\n[[block]]\ncall = [{ op = 'schedule', name = 'a', delay = 0 },\
+                    { op = 'rate', name = 'b', first = 0, period = 2 }, { op = 'shutdown', at = 5 }]\n";
 
 /// The same with a shutdown at once, and a task that is due later.
-const STOPPED: &str = r#"version = 1
-
-[[block]]
-call = [
-  { op = "execute", name = "a" },
-  { op = "rate", name = "b", first = 0, period = 2 },
-  { op = "schedule", name = "c", delay = 9 },
-  { op = "shutdown_now", at = 5 },
-]
-"#;
+const STOPPED: &str = "version = 1\n[[block]]\ncall = [{ op = 'execute', name = 'a' },\
+                       { op = 'rate', name = 'b', first = 0, period = 2 },\
+                       { op = 'schedule', name = 'c', delay = 9 }, { op = 'shutdown_now', at = 5 }]\n";
 
 /// How many tasks the greater of the plans has.
 const TASKS: u32 = 3;
@@ -74,21 +59,6 @@ fn made_by<A: Allocator + Copy>(
         calls.push(planned)?;
     }
     Ok(calls)
-}
-
-/// What is found of the text of some lines, held against a plan with one worker.
-fn found(
-    rt: &impl Abort,
-    alloc: Global,
-    plan: &Plan<Global>,
-    lines: &[Line],
-) -> Result<Finding, Fail> {
-    let mut text = Vec::new(alloc);
-    for line in lines {
-        write_line(&mut text, line)?;
-    }
-    assert!(rt; text.len() <= MOST_BYTES);
-    Ok(check(alloc, plan, 1, &text)?)
 }
 
 /// What a line says that a cancel of this task from outside did, if it says that.
@@ -153,7 +123,7 @@ fn compare(
     let _count = code.calls();
     let calls = made_by(alloc, &code)?;
     let played = play_code(alloc, code, 1, 100, &steps)?;
-    let finding = found(rt, alloc, plan, &played.lines)?;
+    let finding = found(rt, alloc, plan, 1, &played.lines)?;
     assert!(rt; finding == Finding::Conforms, "{number}: {finding:?}");
     let plain = trace_of_happenings(alloc, &calls, 1, &played.happened)?;
     assert!(rt; plain.as_slice() == played.lines.as_slice(), "{number}");
@@ -163,29 +133,26 @@ fn compare(
     Ok(())
 }
 
-#[test]
-fn all_sequences_of_four_conform(rt: HostRuntime) -> Result<(), Fail> {
-    let plan = read_plan(rt.alloc(), PLAN.as_bytes())?;
+/// Plays each sequence of four steps behind a first one, with a book for this plan.
+fn compare_all(rt: &(impl Abort + AllocGlobal), plan: &str, first: Step) -> Result<(), Fail> {
+    let plan = read_plan(rt.alloc(), plan.as_bytes())?;
     for number in 0..6_561u32 {
-        compare(&rt, rt.alloc(), &plan, Step::NoteCancels, number)?;
+        compare(rt, rt.alloc(), &plan, first, number)?;
     }
     Ok(())
+}
+
+#[test]
+fn all_sequences_of_four_conform(rt: HostRuntime) -> Result<(), Fail> {
+    compare_all(&rt, PLAN, Step::NoteCancels)
 }
 
 #[test]
 fn all_sequences_behind_a_clock_conform(rt: HostRuntime) -> Result<(), Fail> {
-    let plan = read_plan(rt.alloc(), PLAN.as_bytes())?;
-    for number in 0..6_561u32 {
-        compare(&rt, rt.alloc(), &plan, Step::Apply(Event::Clock(0)), number)?;
-    }
-    Ok(())
+    compare_all(&rt, PLAN, Step::Apply(Event::Clock(0)))
 }
 
 #[test]
 fn all_sequences_around_a_shutdown_at_once_conform(rt: HostRuntime) -> Result<(), Fail> {
-    let plan = read_plan(rt.alloc(), STOPPED.as_bytes())?;
-    for number in 0..6_561u32 {
-        compare(&rt, rt.alloc(), &plan, Step::Apply(Event::Clock(0)), number)?;
-    }
-    Ok(())
+    compare_all(&rt, STOPPED, Step::Apply(Event::Clock(0)))
 }

@@ -4,10 +4,9 @@ ghost use Rattle.queue_code.specs.Calls.{task_count};
 ghost use Rattle.queue_code.specs.Codes.{calls_of};
 ghost use Rattle.task_word.specs.Views.{new_core};
 
+use super::code_of;
 use crate::{Book, Named, PoolError, Shared};
 use executor_model::Event;
-use plan_compile::compile;
-use plan_read::read_plan;
 use queue_code::Code;
 use std::alloc::{AllocGlobal, Global};
 use std::marker::Brand;
@@ -47,16 +46,12 @@ fn run_book<N: Named>(
 }
 // end of example
 
-/// The code of a plan that submits one task at once.
-fn code_of_one_task(alloc: Global) -> Result<Code<Global>, Fail> {
-    let text = "version = 1\n[[block]]\ncall = [{ op = \"execute\", name = \"a\" }]\n";
-    Ok(compile(alloc, &read_plan(alloc, text.as_bytes())?)?)
-}
+/// The plan of a task that is submitted at once.
+const AT_ONCE: &str = "version = 1\n[[block]]\ncall = [{ op = 'execute', name = 'a' }]\n";
 
 #[test]
 fn the_page_is_run(rt: HostRuntime) -> Result<(), Fail> {
-    let code = code_of_one_task(rt.alloc())?;
-    Ok(run_code(&rt, code)?)
+    Ok(run_code(&rt, code_of(rt.alloc(), AT_ONCE)?)?)
 }
 
 /// The same code without a handle.
@@ -92,6 +87,5 @@ fn start_book<N: Named>(
 
 #[test]
 fn a_task_is_started(rt: HostRuntime) -> Result<(), Fail> {
-    let code = code_of_one_task(rt.alloc())?;
-    Ok(start_code(&rt, code)?)
+    Ok(start_code(&rt, code_of(rt.alloc(), AT_ONCE)?)?)
 }

@@ -5,7 +5,7 @@ use executor_core::{Core, RunEnd};
 use executor_model::{Happening, Line, Outcome};
 use queue_code::Instr;
 use sched_time::{Ending, Timing};
-use std::alloc::{AllocGlobal, Allocator, Global};
+use std::alloc::{AllocGlobal, Allocator};
 use std::process::Abort;
 use std::test::Fail;
 
@@ -38,50 +38,45 @@ fn calls() -> Result<[Instr; 6], Fail> {
     ])
 }
 
-/// The submissions, a clock, and finishes that end no run: of an idle worker, and of no worker.
-fn first_steps() -> [Step; 8] {
+const CALL: Step = (Happening::Call, None);
+
+const START: Step = (Happening::Start(0), None);
+
+const FAULT: Happening = Happening::Finish(0, Ending::Fault(3));
+
+/// What happens to a core of these calls, and the end of the run that is foreseen of each.
+fn steps() -> [Step; 22] {
     [
-        (Happening::Call, None),
-        (Happening::Call, None),
-        (Happening::Call, None),
-        (Happening::Call, None),
-        (Happening::Call, None),
+        // The submissions, a clock, and finishes that end no run: of an idle worker, and of no worker.
+        CALL,
+        CALL,
+        CALL,
+        CALL,
+        CALL,
         (Happening::Clock(1), None),
         (value(1), None),
         (Happening::Finish(1, Ending::Value(1)), None),
-    ]
-}
-
-/// Runs that end with each outcome but the last: the runs of the first four tasks.
-fn run_steps() -> [Step; 9] {
-    let start = (Happening::Start(0), None);
-    let fault = Happening::Finish(0, Ending::Fault(3));
-    [
-        start,
+        // Runs that end with each outcome but the last: the runs of the first four tasks.
+        START,
         (value(7), Some((0, 0, 0, Outcome::Done(7)))),
-        start,
-        (fault, Some((1, 0, 0, Outcome::Failed(3)))),
-        start,
+        START,
+        (FAULT, Some((1, 0, 0, Outcome::Failed(3)))),
+        START,
         (value(8), Some((2, 0, 5, Outcome::Again(5)))),
-        start,
+        START,
         (Happening::Cancel(3), None),
         (value(9), Some((3, 0, 0, Outcome::Dropped))),
-    ]
-}
-
-/// The second run of the third task, which the shutdown ends.
-fn last_steps() -> [Step; 5] {
-    [
+        // The second run of the third task, which the shutdown ends.
         (Happening::Clock(6), None),
-        (Happening::Start(0), None),
-        (Happening::Call, None),
+        START,
+        CALL,
         (value(10), Some((2, 1, 10, Outcome::Ended))),
-        (Happening::Start(0), None),
+        START,
     ]
 }
 
-/// What the lines say of the first steps.
-const FIRST_SAID: &str = "\
+/// What the lines say of these steps.
+const SAID: &str = "\
 0 Answer(Submit { task: 0, kind: Schedule, due: 0 })
 0 Answer(Submit { task: 1, kind: Schedule, due: 0 })
 0 Answer(Submit { task: 2, kind: Rate, due: 0 })
@@ -90,10 +85,6 @@ const FIRST_SAID: &str = "\
 1 Answer(Clock)
 1 Answer(Error(NotRunning))
 1 Answer(Error(NoWorker))
-";
-
-/// What the lines say of the runs of the first four tasks.
-const RUNS_SAID: &str = "\
 1 Answer(Start { worker: 0, task: 0, run: 0, due: 0 })
 1 Answer(Finish { worker: 0, task: 0, run: 0, outcome: Done(7) })
 1 Answer(Start { worker: 0, task: 1, run: 0, due: 0 })
@@ -103,10 +94,6 @@ const RUNS_SAID: &str = "\
 1 Answer(Start { worker: 0, task: 3, run: 0, due: 0 })
 1 Answer(Outside { task: 3, effect: Yes })
 1 Answer(Finish { worker: 0, task: 3, run: 0, outcome: Dropped })
-";
-
-/// What the lines say of the last steps.
-const LAST_SAID: &str = "\
 6 Answer(Clock)
 6 Answer(Start { worker: 0, task: 2, run: 1, due: 5 })
 7 Answer(Shutdown)
@@ -144,69 +131,31 @@ fn take_foreseen<A: Allocator, B: Allocator>(
     Ok(())
 }
 
-/// The lines of a core to which these things happen as they are foreseen, once what is foreseen of each was checked.
-fn lines_foreseen<A: Allocator>(
+/// Has these things happen to a core as they are foreseen, once what is foreseen of each was checked, and to another one with
+/// nothing foreseen: both say the same, and move the same words.
+fn lines_of_both<A: Allocator>(
     rt: &(impl AllocGlobal + Abort),
     core: &mut Core<A>,
+    other: &mut Core<A>,
     steps: &[Step],
 ) -> Result<Vec<Line>, Fail> {
-    let mut out = Vec::new(rt.alloc());
+    let mut lines = Vec::new(rt.alloc());
+    let mut wanted = Vec::new(rt.alloc());
     for (happening, end) in steps {
         is_foreseen(rt, core, *happening, *end);
-        take_foreseen(rt, core, *happening, &mut out)?;
+        take_foreseen(rt, core, *happening, &mut lines)?;
+        take(rt, other, *happening, &mut wanted)?;
+        assert_eq!(rt; core.words(), other.words(), "after {happening:?}");
     }
-    Ok(out)
-}
-
-/// The lines of a core to which these things happen with nothing foreseen.
-fn lines_unforeseen<A: Allocator>(
-    rt: &(impl AllocGlobal + Abort),
-    core: &mut Core<A>,
-    steps: &[Step],
-) -> Result<Vec<Line>, Fail> {
-    let mut out = Vec::new(rt.alloc());
-    for (happening, _) in steps {
-        take(rt, core, *happening, &mut out)?;
-    }
-    Ok(out)
-}
-
-/// Has these things happen to a core as they are foreseen, and to another one with nothing foreseen: both say this, and move
-/// the same words.
-fn both_say<A: Allocator>(
-    rt: &(impl AllocGlobal + Abort),
-    core: &mut Core<A>,
-    other: &mut Core<A>,
-    steps: &[Step],
-    said: &str,
-) -> Result<(), Fail> {
-    let lines = lines_foreseen(rt, core, steps)?;
-    let wanted = lines_unforeseen(rt, other, steps)?;
     assert_eq!(rt; lines.as_slice(), wanted.as_slice());
-    assert_eq!(rt; core.words(), other.words());
-    assert_eq!(rt; text_of_lines(rt.alloc(), &lines)?.as_str(), said);
-    Ok(())
-}
-
-/// Has all these things happen to two cores of the same calls.
-fn both_say_all<A: Allocator>(
-    rt: &(impl AllocGlobal + Abort),
-    core: &mut Core<A>,
-    other: &mut Core<A>,
-) -> Result<(), Fail> {
-    both_say(rt, core, other, &first_steps(), FIRST_SAID)?;
-    both_say(rt, core, other, &run_steps(), RUNS_SAID)?;
-    both_say(rt, core, other, &last_steps(), LAST_SAID)
-}
-
-/// A core of these calls.
-fn core_of_calls(alloc: Global) -> Result<Core<Global>, Fail> {
-    core_of(alloc, &calls()?, 1, 100)
+    Ok(lines)
 }
 
 #[test]
 fn what_is_foreseen_is_what_happens(rt: HostRuntime) -> Result<(), Fail> {
-    let mut core = core_of_calls(rt.alloc())?;
-    let mut other = core_of_calls(rt.alloc())?;
-    both_say_all(&rt, &mut core, &mut other)
+    let mut core = core_of(rt.alloc(), &calls()?, 1, 100)?;
+    let mut other = core_of(rt.alloc(), &calls()?, 1, 100)?;
+    let lines = lines_of_both(&rt, &mut core, &mut other, &steps())?;
+    assert_eq!(rt; text_of_lines(rt.alloc(), &lines)?.as_str(), SAID);
+    Ok(())
 }

@@ -9,35 +9,8 @@ use std::alloc::{AllocGlobal, Global};
 use std::process::Abort;
 use std::test::Fail;
 
-/// Gives a core these events, and checks after each of them that this much of its heap is used.
-fn give_while_used(
-    rt: &impl Abort,
-    heap: &LocalHeap,
-    core: &mut Core<&LocalHeap>,
-    out: &mut Vec<Line, &LocalHeap>,
-    events: &[Event],
-    used: usize,
-) -> Result<(), Fail> {
-    for event in events {
-        give(core, &[*event], out)?;
-        assert_eq!(rt; heap.used(), used);
-    }
-    Ok(())
-}
-
-/// Checks that a core and its list come to these numbers: the lines, the moment, the events and the tasks.
-fn comes_to(
-    rt: &impl Abort,
-    core: &Core<&LocalHeap>,
-    out: &Vec<Line, &LocalHeap>,
-    wanted: (usize, u64, u32, usize),
-) {
-    let numbers = (out.len(), core.now(), core.taken(), core.tasks());
-    assert_eq!(rt; numbers, wanted);
-}
-
 /// Gives a core these events, and checks that none takes memory, that the list keeps this much room, and that they come
-/// to these numbers.
+/// to these numbers: the lines, the moment, the events and the tasks.
 fn events_take_no_memory(
     rt: &impl Abort,
     heap: &LocalHeap,
@@ -49,8 +22,12 @@ fn events_take_no_memory(
 ) -> Result<(), Fail> {
     let used = heap.used();
     assert_eq!(rt; out.capacity(), room);
-    give_while_used(rt, heap, core, out, events, used)?;
-    comes_to(rt, core, out, wanted);
+    for event in events {
+        give(core, &[*event], out)?;
+        assert_eq!(rt; heap.used(), used);
+    }
+    let numbers = (out.len(), core.now(), core.taken(), core.tasks());
+    assert_eq!(rt; numbers, wanted);
     let kept = (out.capacity(), core.words().len(), heap.used());
     assert_eq!(rt; kept, (room, core.tasks(), used));
     Ok(())
@@ -185,31 +162,19 @@ fn a_core_that_lacks_one_table_gives_its_code_back(rt: HostRuntime) -> Result<()
     Ok(())
 }
 
-/// Refuses a clock to a core while hardly any of its heap is free.
-fn refuses_without_memory(
-    rt: &impl Abort,
-    heap: &LocalHeap,
-    core: &mut Core<Global>,
-    out: &mut Vec<Line, &LocalHeap>,
-) -> Result<(), Fail> {
-    let _full = Vec::<u8, _>::with_capacity(heap, 440)?;
-    let used = heap.used();
-    assert_eq!(rt;
-        refusal_of(core, Event::Clock(0), out),
-        Some(CoreError::Memory)
-    );
-    assert_eq!(rt; (core.taken(), out.len(), heap.used()), (0, 0, used));
-    Ok(())
-}
-
-/// Gives a core a clock twice: first without memory, and then with it.
+/// Gives a core a clock twice: first while hardly any of its heap is free, and then with memory.
 fn takes_it_with_memory(
     rt: &impl Abort,
     heap: &LocalHeap,
     core: &mut Core<Global>,
     out: &mut Vec<Line, &LocalHeap>,
 ) -> Result<(), Fail> {
-    refuses_without_memory(rt, heap, core, out)?;
+    let full = Vec::<u8, _>::with_capacity(heap, 440)?;
+    let used = heap.used();
+    let refused = refusal_of(core, Event::Clock(0), out);
+    assert_eq!(rt; refused, Some(CoreError::Memory));
+    assert_eq!(rt; (core.taken(), out.len(), heap.used()), (0, 0, used));
+    drop(full);
     give(core, &[Event::Clock(0)], out)?;
     assert_eq!(rt; (core.taken(), out.len()), (1, 2));
     Ok(())

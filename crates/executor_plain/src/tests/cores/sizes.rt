@@ -1,38 +1,28 @@
 //! Cores and lines of several sizes, with ample memory.
-use super::{code_of, core_of, give, lines_after, refusal_of, submissions};
+use super::{code_of, core_of, lines_after, lines_of, refusal_of, submissions, text_of_lines};
 use executor_core::{Core, CoreError};
 use executor_model::{Answer, Event, Line, Message};
 use queue_code::{Instr, MOST_CALLS};
-use std::alloc::{AllocGlobal, Allocator};
+use std::alloc::AllocGlobal;
 use std::process::Abort;
 use std::test::Fail;
 
-/// Gives a core of 70 tasks and this many workers a clock, a start of its last worker, and one of no worker.
-fn starts_last_worker<A: Allocator>(
-    rt: &impl Abort,
-    core: &mut Core<A>,
-    workers: u8,
-    out: &mut Vec<Line, A>,
-) -> Result<(), Fail> {
-    let events = [
-        Event::Clock(0),
-        Event::Start(workers.saturating_sub(1)),
-        Event::Start(workers),
-    ];
-    give(core, &events, out)?;
-    assert_eq!(rt; out.len(), 73);
-    assert_eq!(rt; (core.tasks(), core.taken(), core.now()), (70, 3, 0));
-    Ok(())
-}
-
-/// Has a core of these 70 tasks and this many workers start its last worker.
+/// Gives a core of these 70 tasks and this many workers a clock, a start of its last worker, and one of no worker.
 fn last_worker_starts(
     rt: &(impl AllocGlobal + Abort),
     instrs: &[Instr],
     workers: u8,
 ) -> Result<(), Fail> {
+    let last = Event::Start(workers.saturating_sub(1));
     let mut core = core_of(rt.alloc(), instrs, workers, u32::MAX)?;
-    starts_last_worker(rt, &mut core, workers, &mut Vec::new(rt.alloc()))
+    let out = lines_of(
+        rt,
+        &mut core,
+        &[Event::Clock(0), last, Event::Start(workers)],
+    )?;
+    assert_eq!(rt; out.len(), 73);
+    assert_eq!(rt; (core.tasks(), core.taken(), core.now()), (70, 3, 0));
+    Ok(())
 }
 
 #[test]
@@ -44,48 +34,31 @@ fn cores_of_each_number_of_workers(rt: HostRuntime) -> Result<(), Fail> {
     Ok(())
 }
 
+/// It has no words, and its workers get no work.
 #[test]
 fn a_core_without_calls(rt: HostRuntime) -> Result<(), Fail> {
-    let moment = 9;
-    let lines = [
-        Line::new(moment, Message::Answer(Answer::Clock)),
-        Line::new(moment, Message::Answer(Answer::Idle { worker: 0 })),
-    ];
     for workers in 1..=64 {
-        let out = lines_after(&rt, &[], workers, &[Event::Clock(9), Event::Start(0)])?;
-        assert_eq!(rt; out.as_slice(), lines.as_slice());
-    }
-    Ok(())
-}
-
-#[test]
-fn a_core_without_calls_has_no_words(rt: HostRuntime) -> Result<(), Fail> {
-    for workers in 1..=64 {
-        let core = core_of(rt.alloc(), &[], workers, u32::MAX)?;
+        let mut core = core_of(rt.alloc(), &[], workers, u32::MAX)?;
         assert_eq!(rt; core.words().len(), 0);
+        let out = lines_of(&rt, &mut core, &[Event::Clock(9), Event::Start(0)])?;
+        let text = text_of_lines(rt.alloc(), &out)?;
+        assert_eq!(rt;
+            text.as_str(),
+            "9 Answer(Clock)\n9 Answer(Idle { worker: 0 })\n"
+        );
     }
     Ok(())
 }
 
-/// Gives a core without calls four starts, of which it takes three.
-fn takes_three_starts<A: Allocator>(
-    rt: &impl Abort,
-    core: &mut Core<A>,
-    out: &mut Vec<Line, A>,
-) -> Result<(), Fail> {
-    give(core, &[Event::Start(0); 3], out)?;
-    assert_eq!(rt;
-        refusal_of(core, Event::Start(0), out),
-        Some(CoreError::Full)
-    );
-    assert_eq!(rt; (core.taken(), out.len()), (3, 3));
-    Ok(())
-}
-
+/// A core without calls is given four starts, of which it takes three.
 #[test]
 fn a_core_takes_as_many_events_as_its_limit(rt: HostRuntime) -> Result<(), Fail> {
     let mut core = core_of(rt.alloc(), &[], 1, 3)?;
-    takes_three_starts(&rt, &mut core, &mut Vec::new(rt.alloc()))
+    let mut out = lines_of(&rt, &mut core, &[Event::Start(0); 3])?;
+    let refused = refusal_of(&mut core, Event::Start(0), &mut out);
+    assert_eq!(rt; refused, Some(CoreError::Full));
+    assert_eq!(rt; (core.taken(), out.len()), (3, 3));
+    Ok(())
 }
 
 #[test]

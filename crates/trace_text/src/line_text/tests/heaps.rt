@@ -1,20 +1,9 @@
 //! How much memory a line takes, over heaps of fixed size.
 use crate::line_text::{LINE_ROOM, write_line};
+use crate::tests::longest;
 use crate::text_error::TextError;
-use executor_model::{Answer, Line, Message, Outcome};
 use linked_list_allocator::LocalHeap;
 use std::test::Fail;
-
-/// The line with the longest text.
-fn longest() -> Line {
-    let answer = Answer::Finish {
-        worker: 255,
-        task: u32::MAX,
-        run: u64::MAX,
-        outcome: Outcome::Again(u64::MAX),
-    };
-    Line::new(u64::MAX, Message::Answer(answer))
-}
 
 #[test]
 fn takes_the_room_of_a_line(rt: HostRuntime) -> Result<(), Fail> {

@@ -5,8 +5,8 @@ ghost use Rattle.queue_code.specs.Codes.{calls_of};
 ghost use Rattle.task_word.specs.Views.{new_core};
 
 use super::{
-    Call, RunNumber, Said, call_of, code_of, in_time, is_done, is_said, read_calls, saw, tasks_of,
-    text_of,
+    Call, RunNumber, Said, call_of, check_lines, code_of, in_time, is_done, is_said, read_calls,
+    saw, tasks_of,
 };
 use crate::{Job, Named, Pool, PoolError, Shared};
 use executor_model::Line;
@@ -106,12 +106,10 @@ fn beside_of<N: Named + Send + Sync, R: Threads + Wait + Sync>(
         || call_beside(rt, alloc, &pool, held, calls),
     );
     let book = pool.end();
-    let mut lines = Vec::new(alloc);
-    lines.extend_from_slice(book.lines())?;
     Ok(Beside {
         ran,
         said: said?,
-        lines,
+        lines: book.lines().to_vec(alloc)?,
     })
 }
 
@@ -129,10 +127,9 @@ fn play_beside<R: Threads + Wait + Sync>(
 }
 
 /// Calls beside a run, and what they are answered.
-const BESIDE_A_RUN: &str = "run 1 | Ran(Err(Running))
-run | Ran(Err(Running))
-advance 7 | Advanced(Ok(Applied { first: 4, count: 1, work: None }))
-run 8 | Ran(Err(Running))";
+const BESIDE_A_RUN: &str = "run 1 | Ran(Err(Running))\nrun | Ran(Err(Running))\n\
+                            advance 7 | Advanced(Ok(Applied { first: 4, count: 1, work: None }))\n\
+                            run 8 | Ran(Err(Running))";
 
 #[test]
 fn a_second_run_is_told_so(rt: HostRuntime) -> Result<(), Fail> {
@@ -143,18 +140,15 @@ fn a_second_run_is_told_so(rt: HostRuntime) -> Result<(), Fail> {
     let beside = in_time(&rt, || play_beside(&rt, alloc, code, 1, &held, &calls))?;
     assert!(rt; beside.ran == Ok(()));
     is_said(&rt, "beside a run", &beside.said, BESIDE_A_RUN)?;
-    let text = text_of(alloc, &beside.lines)?;
     let wanted = "0 submit 0 schedule due 0\n0 submit 1 schedule due 0\n0 clock\n\
                   0 start 0 task 0 run 0 due 0\n7 clock\n7 finish 0 task 0 run 0 done 1\n\
                   7 start 0 task 1 run 0 due 0\n7 finish 0 task 1 run 0 done 1\n";
-    assert!(rt; text.as_slice() == wanted.as_bytes());
-    Ok(())
+    check_lines(&rt, "beside a run", &beside.lines, wanted)
 }
 
 /// A task that is due at moment 0, and one that is due at moment 1.
-const TWO: &str =
-    "version = 1\n[[block]]\ncall = [{ op = \"schedule\", name = \"a\", delay = 0 },\n\
-                   { op = \"schedule\", name = \"b\", delay = 1 }]\n";
+const TWO: &str = "version = 1\n[[block]]\ncall = [{ op = 'schedule', name = 'a', delay = 0 },\n\
+                   { op = 'schedule', name = 'b', delay = 1 }]\n";
 
 #[test]
 fn a_clock_from_elsewhere_wakes_a_worker(rt: HostRuntime) -> Result<(), Fail> {

@@ -109,13 +109,11 @@ fn refuse_in<'h, N: Named + Send + Sync, R: Threads + Wait + Sync + AllocGlobal>
         later = Some(run_again(rt, &pool, &job)?);
     }
     let book = pool.end();
-    let mut lines = Vec::new(rt.alloc());
-    lines.extend_from_slice(book.lines())?;
     Ok(Came {
         ran,
         later,
         is_ripe: book.ripe(),
-        lines,
+        lines: book.lines().to_vec(rt.alloc())?,
     })
 }
 

@@ -1,5 +1,5 @@
 //! Runs that are long: of many clocks, and of a task that is run many times.
-use super::{RunNumber, is_said, play};
+use super::{AMPLE, RunNumber, is_said, play};
 use crate::Job;
 use executor_model::{Answer, Message};
 use sched_time::Ending;
@@ -22,7 +22,7 @@ fn each_of_many_clocks_is_applied(rt: HostRuntime) -> Result<(), Fail> {
     }
     write!(script, " | Ran(Ok(()))\n{BEHIND}")?;
     let plan = "version = 1\n";
-    let played = play(&rt, plan, 1, 1_000_000, &RunNumber, script.as_str())?;
+    let played = play(&rt, plan, 1, AMPLE, &RunNumber, script.as_str())?;
     is_said(&rt, "many clocks", &played.said, script.as_str())?;
     assert!(rt; played.lines.len() == 65_538);
     for (place, line) in played.lines.iter().enumerate() {
@@ -51,7 +51,7 @@ impl Job for InOrder {
 
 /// A task at a fixed rate of one.
 const EACH_NANOSECOND: &str =
-    "version = 1\n[[block]]\ncall = [{ op = \"rate\", name = \"a\", first = 0, period = 1 }]\n";
+    "version = 1\n[[block]]\ncall = [{ op = 'rate', name = 'a', first = 0, period = 1 }]\n";
 
 /// The task is due at the moments 0 to 299.
 #[test]
@@ -61,7 +61,7 @@ fn a_job_is_told_the_number_of_each_of_many_runs(rt: HostRuntime) -> Result<(), 
         astray: AtomicU64::new(0),
     };
     let script = "run 299 | Ran(Ok(()))";
-    let played = play(&rt, EACH_NANOSECOND, 1, 1_000_000, &job, script)?;
+    let played = play(&rt, EACH_NANOSECOND, 1, AMPLE, &job, script)?;
     is_said(&rt, "many runs", &played.said, script)?;
     assert!(rt; job.astray.load(Ordering::SeqCst) == 0);
     assert!(rt; job.next.load(Ordering::SeqCst) == 300);

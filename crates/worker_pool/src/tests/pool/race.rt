@@ -243,9 +243,8 @@ fn count_wins<'s, N: Named>(
         let won = canceller.won.iter().filter(|won| **won).count();
         raced.won = raced.won.saturating_add(won);
         raced.keeps = raced.keeps && canceller.keeps;
-        if let Err((error, _)) = book.retire(shared, canceller.handle) {
-            return Err(error.into());
-        }
+        book.retire(shared, canceller.handle)
+            .map_err(|(error, _)| error)?;
     }
     raced.lines.extend_from_slice(book.lines())?;
     Ok(())

@@ -1,43 +1,65 @@
-use Rattle.std.proofs.Common.{◌≡◌, ◌<◌, length, None, ◌∙◌, sym, ap, arith, subst}
-use Rattle.std.specs.Prelude.{slice_index_or}
-use Rattle.executor_model.specs.declared.task.Task.{Task}
-use Rattle.executor_model.specs.declared.types.Happening.TheVariants as h
-use Rattle.executor_core.specs.CoreView.{CoreView, workers_of, state_of, RunsBelowTaken}
+-- A worker begins a run of the first task that is due, or none.
+use Rattle.std.proofs.Common.{length, arith, sym, subst}
 use Rattle.executor_model.specs.Needs.{need_of}
-use Rattle.executor_model.proofs.Tables.{read_at, none_of}
-use Rattle.executor_core.proofs.RunSteps.{Gets, of_view, start_idles, start_needs, start_takes, start_keeps}
+use Rattle.executor_model.specs.declared.types.Happening.TheVariants as h
+use Rattle.executor_model.specs.declared.types.Answer.TheVariants as a
+use Rattle.task_table.specs.Runs.{Starts}
+use Rattle.task_table.specs.Tables.{StandsBefore}
+use Rattle.task_table.proofs.Starts.{stands_before}
+use Rattle.executor_core.specs.CoreView.{CoreView, workers_of, state_of, RunsBelowTaken}
+use Rattle.executor_core.specs.own.Invariants.{core_of}
+use Rattle.executor_core.specs.own.OwnSteps.{Takes}
+use Rattle.executor_core.proofs.Starting.{first_below, begins, idles, may_run}
 use Rattle.executor_core.proofs.machine.Core.answer_start.Goals as goal
 
-pub returns-in_default-clause-step : goal.returns-in_default-clause-step
-returns-in_default-clause-step g c =
+pub start-requires-clause-runs : goal.start-requires-clause-runs
+start-requires-clause-runs g c =
     let m = c.self.inside in
-    let l : c.args.worker < length m.work.items = omega (arith, c.if-place-len.false, c.len.ensures, m.work.ok.0) in
-    let read = read_at m.work.items c.args.worker c.index.result.now None l c.index.ensures in
-    let free : slice_index_or m.work.items c.args.worker None ≡ None = sym read ∙ none_of c.index.result.now c.if-is_some.ensures in
-    of_view _ c.args.self.now _ _ _ c.self.view_is
-    (start_idles _ c.drop_met.new.self m.queue.entries m.kept.entries m.sought c.args.worker c.self.invariant l free c.in_default.ensures.none_due c.drop_met.ensures.rest c.drop_met.ensures.tasks)
+    let f = c.self.invariant in
+    let w = c.args.worker in
+    let mid = c.drop_met.new.table in
+    let counted : RunsBelowTaken (core_of m.calls.items m.limit m.taken m.calls.made m.table) (need_of m.calls.items (length m.table.work) (state_of (core_of m.calls.items m.limit m.taken m.calls.made m.table)) (h.Start w)) = subst (λ (x : CoreView). RunsBelowTaken x (need_of x.calls (workers_of x) (state_of x) (h.Start w))) (sym c.self.view_is) c.requires in
+    let before : StandsBefore mid m.calls.items f.past (h.Start w) = c.drop_met.ensures.steps w c.in_default.ensures.free m.calls.items f.past (stands_before m.table m.calls.items f.past (h.Start w) f.reached.stands) in
+    may_run m.taken mid (omega (arith, c.self.ranges)) (λ i x first. first_below m.calls.items m.limit m.taken m.calls.made m.table mid m.sought w i x f c.in_default.ensures.free c.drop_met.ensures.unkept before counted first)
+
+pub invariant_of-self : goal.invariant_of-self
+invariant_of-self g c =
+    let m = c.self.inside in
+    let f = c.self.invariant in
+    let w = c.args.worker in
+    let mid = c.drop_met.new.table in
+    let counted : RunsBelowTaken (core_of m.calls.items m.limit m.taken m.calls.made m.table) (need_of m.calls.items (length m.table.work) (state_of (core_of m.calls.items m.limit m.taken m.calls.made m.table)) (h.Start w)) = subst (λ (x : CoreView). RunsBelowTaken x (need_of x.calls (workers_of x) (state_of x) (h.Start w))) (sym c.self.view_is) c.requires in
+    let before : StandsBefore mid m.calls.items f.past (h.Start w) = c.drop_met.ensures.steps w c.in_default.ensures.free m.calls.items f.past (stands_before m.table m.calls.items f.past (h.Start w) f.reached.stands) in
+    (idles m.calls.items m.limit m.taken m.calls.made m.table mid c.start.new.self m.sought w f c.drop_met.ensures.unkept before (subst (λ o. Starts mid c.start.new.self w o) c.in_default-begun.is c.in-Ok.ensures.started)).1
+
+pub returns-in_default-begun-clause-step : goal.returns-in_default-begun-clause-step
+returns-in_default-begun-clause-step g c =
+    let m = c.self.inside in
+    let f = c.self.invariant in
+    let w = c.args.worker in
+    let mid = c.drop_met.new.table in
+    let counted : RunsBelowTaken (core_of m.calls.items m.limit m.taken m.calls.made m.table) (need_of m.calls.items (length m.table.work) (state_of (core_of m.calls.items m.limit m.taken m.calls.made m.table)) (h.Start w)) = subst (λ (x : CoreView). RunsBelowTaken x (need_of x.calls (workers_of x) (state_of x) (h.Start w))) (sym c.self.view_is) c.requires in
+    let before : StandsBefore mid m.calls.items f.past (h.Start w) = c.drop_met.ensures.steps w c.in_default.ensures.free m.calls.items f.past (stands_before m.table m.calls.items f.past (h.Start w) f.reached.stands) in
+    subst (λ (x : CoreView). Takes x (core_of m.calls.items m.limit m.taken m.calls.made c.start.new.self) (h.Start w) (a.Idle w)) c.self.view_is
+    (idles m.calls.items m.limit m.taken m.calls.made m.table mid c.start.new.self m.sought w f c.drop_met.ensures.unkept before (subst (λ o. Starts mid c.start.new.self w o) c.in_default-begun.is c.in-Ok.ensures.started)).0
 
 pub invariant_of-self-2 : goal.invariant_of-self-2
 invariant_of-self-2 g c =
     let m = c.self.inside in
-    let l : c.args.worker < length m.work.items = omega (arith, c.if-place-len.false, c.len.ensures, m.work.ok.0) in
-    let read = read_at m.work.items c.args.worker c.index.result.now None l c.index.ensures in
-    let free : slice_index_or m.work.items c.args.worker None ≡ None = sym read ∙ none_of c.index.result.now c.if-is_some.ensures in
-    let poll = c.in-Some.ensures in
-    let gets : Gets _ m.queue.entries c.args.worker c.in-Some.entry = record { worker = l; free = free; least = poll.least; due = poll.due } in
-    let low = subst (λ (x : CoreView). RunsBelowTaken x (need_of x.calls (workers_of x) (state_of x) (h.Start c.args.worker))) (sym c.self.view_is) c.requires in
-    let counted = low c.in-Some.entry.task (start_needs _ m.queue.entries m.kept.entries m.sought c.args.worker c.in-Some.entry c.self.invariant gets) in
-    start_keeps _ m.queue.entries m.kept.entries c.poll.new.self.entries m.sought c.args.worker c.in-Some.entry c.start.new.self c.self.invariant gets
-    counted c.start.ensures poll.removed
+    let f = c.self.invariant in
+    let w = c.args.worker in
+    let mid = c.drop_met.new.table in
+    let counted : RunsBelowTaken (core_of m.calls.items m.limit m.taken m.calls.made m.table) (need_of m.calls.items (length m.table.work) (state_of (core_of m.calls.items m.limit m.taken m.calls.made m.table)) (h.Start w)) = subst (λ (x : CoreView). RunsBelowTaken x (need_of x.calls (workers_of x) (state_of x) (h.Start w))) (sym c.self.view_is) c.requires in
+    let before : StandsBefore mid m.calls.items f.past (h.Start w) = c.drop_met.ensures.steps w c.in_default.ensures.free m.calls.items f.past (stands_before m.table m.calls.items f.past (h.Start w) f.reached.stands) in
+    (begins m.calls.items m.limit m.taken m.calls.made m.table mid c.start.new.self m.sought w c.in-Some-begun.begun f c.in_default.ensures.free c.drop_met.ensures.unkept before counted (subst (λ o. Starts mid c.start.new.self w o) c.in-Some-begun.is c.in-Ok.ensures.started)).1
 
 pub returns-clause-step : goal.returns-clause-step
 returns-clause-step g c =
     let m = c.self.inside in
-    let l : c.args.worker < length m.work.items = omega (arith, c.if-place-len.false, c.len.ensures, m.work.ok.0) in
-    let read = read_at m.work.items c.args.worker c.index.result.now None l c.index.ensures in
-    let free : slice_index_or m.work.items c.args.worker None ≡ None = sym read ∙ none_of c.index.result.now c.if-is_some.ensures in
-    let poll = c.in-Some.ensures in
-    let run = c.from.ensures ∙ ap (λ (x : Task). x.run) c.get-task.ensures in
-    of_view _ c.args.self.now _ _ _ c.self.view_is
-    (start_takes _ c.drop_met-2.new.self m.queue.entries m.kept.entries m.sought c.args.worker c.from.result c.in-Some.entry c.start.new.self c.self.invariant (record { worker = l; free = free; least = poll.least; due = poll.due })
-    c.start.ensures run c.drop_met-2.ensures.rest c.drop_met-2.ensures.tasks)
+    let f = c.self.invariant in
+    let w = c.args.worker in
+    let mid = c.drop_met.new.table in
+    let counted : RunsBelowTaken (core_of m.calls.items m.limit m.taken m.calls.made m.table) (need_of m.calls.items (length m.table.work) (state_of (core_of m.calls.items m.limit m.taken m.calls.made m.table)) (h.Start w)) = subst (λ (x : CoreView). RunsBelowTaken x (need_of x.calls (workers_of x) (state_of x) (h.Start w))) (sym c.self.view_is) c.requires in
+    let before : StandsBefore mid m.calls.items f.past (h.Start w) = c.drop_met.ensures.steps w c.in_default.ensures.free m.calls.items f.past (stands_before m.table m.calls.items f.past (h.Start w) f.reached.stands) in
+    subst (λ (x : CoreView). Takes x (core_of m.calls.items m.limit m.taken m.calls.made c.start.new.self) (h.Start w) (a.Start w c.in-Some-begun.begun.task.slot c.in-Some-begun.begun.run c.in-Some-begun.begun.due)) c.self.view_is
+    (begins m.calls.items m.limit m.taken m.calls.made m.table mid c.start.new.self m.sought w c.in-Some-begun.begun f c.in_default.ensures.free c.drop_met.ensures.unkept before counted (subst (λ o. Starts mid c.start.new.self w o) c.in-Some-begun.is c.in-Ok.ensures.started)).0

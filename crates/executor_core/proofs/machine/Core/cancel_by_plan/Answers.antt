@@ -1,49 +1,128 @@
-use Rattle.std.proofs.Common.{◌≡◌, ◌<◌, length, Some, max, refl, ap, sym, ◌∙◌, arith, subst}
+-- A cancel of the plan.
+use Rattle.std.proofs.Common.{◌≡◌, ◌+◌, ◌≤◌, Some, sym, ap, ◌∙◌, subst}
 use Rattle.std.specs.Prelude.{slice_get}
 use Rattle.queue_code.specs.declared.call.CodeCall.TheVariants as call
+use Rattle.executor_model.specs.declared.types.Happening.TheVariants as h
+use Rattle.executor_model.specs.declared.types.Answer.TheVariants as a
+use Rattle.executor_model.specs.declared.types.CancelEffect.TheVariants as ef
 use Rattle.executor_model.specs.Tasks.{uncancelled_in}
-use Rattle.executor_core.specs.CoreView.{CoreView, state_of}
-use Rattle.executor_model.specs.own.Soundness.{IsSound}
-use Rattle.executor_core.proofs.Calling.{passed_kept}
-use Rattle.executor_core.proofs.Cancels.{names_a_task, plan_steps, is_cancelled_so, cancelled_fewer}
+use Rattle.task_table.specs.Seats.{slot_of}
+use Rattle.plan_table.specs.Numbered.{tasks_at}
+use Rattle.executor_core.specs.CoreView.{CoreView}
+use Rattle.executor_core.specs.own.Invariants.{core_of}
+use Rattle.executor_core.specs.own.OwnSteps.{Takes}
+use Rattle.executor_core.proofs.NextCalls.{next_call}
+use Rattle.executor_core.proofs.Cancelling.{there_is, none_is, call_cancels, call_cancels_none}
 use Rattle.executor_core.proofs.machine.Core.cancel_by_plan.Goals as goal
 
-pub cancel_task-effect-requires : goal.cancel_task-effect-requires
-cancel_task-effect-requires g c =
+pub cancel_by_call-effect-requires-clause-moment : goal.cancel_by_call-effect-requires-clause-moment
+cancel_by_call-effect-requires-clause-moment g c =
     let m = c.self.inside in
-    let is : slice_get m.calls.items m.calls.made ≡ Some (c.requires.0, call.Cancel c.args.task) = ap (λ x. slice_get x.calls x.made) c.self.view_is ∙ c.requires.1 in
-    let low : c.args.task < length m.tasks = omega (arith, names_a_task m.calls.items 0 0 m.calls.made c.requires.0 c.args.task c.self.invariant.orderly.1 is, c.self.invariant.count) in
-    subst (λ (x : CoreView). c.args.task < length x.tasks) c.self.view_is low
+    let f = c.self.invariant in
+    let at = c.pass-at.result in
+    let there : slice_get m.calls.items m.calls.made ≡ Some (c.requires.0, call.Cancel c.args.task) = ap (λ x. slice_get x.calls x.made) c.self.view_is ∙ c.requires.1 in
+    let is : slice_get m.calls.items m.calls.made ≡ Some (at, call.Cancel c.args.task) = there ∙ ap (λ n. Some (n, call.Cancel c.args.task)) (sym (c.pass-at.ensures.moment (c.requires.0, call.Cancel c.args.task) there)) in
+    let n = next_call m.calls.items m.limit m.taken m.calls.made m.table m.sought at (call.Cancel c.args.task) f is in
+    n.ahead
+
+pub cancel_by_call-effect-requires-clause-limit : goal.cancel_by_call-effect-requires-clause-limit
+cancel_by_call-effect-requires-clause-limit g c =
+    let m = c.self.inside in
+    let f = c.self.invariant in
+    let at = c.pass-at.result in
+    let there : slice_get m.calls.items m.calls.made ≡ Some (c.requires.0, call.Cancel c.args.task) = ap (λ x. slice_get x.calls x.made) c.self.view_is ∙ c.requires.1 in
+    let is : slice_get m.calls.items m.calls.made ≡ Some (at, call.Cancel c.args.task) = there ∙ ap (λ n. Some (n, call.Cancel c.args.task)) (sym (c.pass-at.ensures.moment (c.requires.0, call.Cancel c.args.task) there)) in
+    let n = next_call m.calls.items m.limit m.taken m.calls.made m.table m.sought at (call.Cancel c.args.task) f is in
+    n.limit
+
+pub pass-requires-clause-moment : goal.pass-requires-clause-moment
+pass-requires-clause-moment g c =
+    let m = c.self.inside in
+    let f = c.self.invariant in
+    let at = c.pass-at.result in
+    let there : slice_get m.calls.items m.calls.made ≡ Some (c.requires.0, call.Cancel c.args.task) = ap (λ x. slice_get x.calls x.made) c.self.view_is ∙ c.requires.1 in
+    let is : slice_get m.calls.items m.calls.made ≡ Some (at, call.Cancel c.args.task) = there ∙ ap (λ n. Some (n, call.Cancel c.args.task)) (sym (c.pass-at.ensures.moment (c.requires.0, call.Cancel c.args.task) there)) in
+    let n = next_call m.calls.items m.limit m.taken m.calls.made m.table m.sought at (call.Cancel c.args.task) f is in
+    n.ahead
+
+pub pass-requires-clause-limit : goal.pass-requires-clause-limit
+pass-requires-clause-limit g c =
+    let m = c.self.inside in
+    let f = c.self.invariant in
+    let at = c.pass-at.result in
+    let there : slice_get m.calls.items m.calls.made ≡ Some (c.requires.0, call.Cancel c.args.task) = ap (λ x. slice_get x.calls x.made) c.self.view_is ∙ c.requires.1 in
+    let is : slice_get m.calls.items m.calls.made ≡ Some (at, call.Cancel c.args.task) = there ∙ ap (λ n. Some (n, call.Cancel c.args.task)) (sym (c.pass-at.ensures.moment (c.requires.0, call.Cancel c.args.task) there)) in
+    let n = next_call m.calls.items m.limit m.taken m.calls.made m.table m.sought at (call.Cancel c.args.task) f is in
+    n.limit
 
 pub invariant_of-self : goal.invariant_of-self
 invariant_of-self g c =
-    let old = c.args.self.now in
-    let did = c.cancel_task-effect.ensures in
-    let same = c.self-2.view_is ∙ is_cancelled_so old c.cancel_task-effect.new.self c.args.task c.cancel_task-effect.result did.yes did.no in
-    let is = ap (λ x. slice_get x.calls x.made) same ∙ c.requires.1 in
-    let moment = ap (λ (x : CoreView). x.moment) c.self.view_is ∙ sym (ap (λ (x : CoreView). x.moment) same) in
-    rw c.pass.ensures.passed (passed_kept _ c.self-2.inside.queue.entries c.self-2.inside.kept.entries c.self-2.inside.sought c.max-self-inside.result c.requires.0 (call.Cancel c.args.task) c.self-2.invariant is
-    (c.max-self-inside.ensures ∙ (ap (max c.self.inside.moment) (c.pass.ensures.moment (c.requires.0, call.Cancel c.args.task) is) ∙ ap (λ n. max n c.requires.0) moment)))
+    let m = c.self.inside in
+    let f = c.self.invariant in
+    let at = c.pass-at.result in
+    let there : slice_get m.calls.items m.calls.made ≡ Some (c.requires.0, call.Cancel c.args.task) = ap (λ x. slice_get x.calls x.made) c.self.view_is ∙ c.requires.1 in
+    let is : slice_get m.calls.items m.calls.made ≡ Some (at, call.Cancel c.args.task) = there ∙ ap (λ n. Some (n, call.Cancel c.args.task)) (sym (c.pass-at.ensures.moment (c.requires.0, call.Cancel c.args.task) there)) in
+    let n = next_call m.calls.items m.limit m.taken m.calls.made m.table m.sought at (call.Cancel c.args.task) f is in
+    let empty = none_is (slot_of m.table.slots c.args.task) c.seat.result c.is_none.result c.seat.ensures c.is_none.ensures c.if-is_none.true in
+    rw c.pass-at.ensures.passed (call_cancels_none m.calls.items m.limit m.taken m.calls.made m.table c.pass.new.self m.sought at c.args.task f n empty c.pass.ensures.slots c.pass.ensures.gone).core
+
+pub invariant_of-self-2 : goal.invariant_of-self-2
+invariant_of-self-2 g c =
+    let m = c.self.inside in
+    let f = c.self.invariant in
+    let at = c.pass-at.result in
+    let there : slice_get m.calls.items m.calls.made ≡ Some (c.requires.0, call.Cancel c.args.task) = ap (λ x. slice_get x.calls x.made) c.self.view_is ∙ c.requires.1 in
+    let is : slice_get m.calls.items m.calls.made ≡ Some (at, call.Cancel c.args.task) = there ∙ ap (λ n. Some (n, call.Cancel c.args.task)) (sym (c.pass-at.ensures.moment (c.requires.0, call.Cancel c.args.task) there)) in
+    let n = next_call m.calls.items m.limit m.taken m.calls.made m.table m.sought at (call.Cancel c.args.task) f is in
+    let seat = there_is (slot_of m.table.slots c.args.task) c.seat.result c.is_none.result c.seat.ensures c.is_none.ensures c.if-is_none.false in
+    let x = seat.0 in
+    let did = c.cancel_by_call-effect.ensures in
+    rw c.pass-at.ensures.passed (call_cancels m.calls.items m.limit m.taken m.calls.made m.table c.cancel_by_call-effect.new.self m.sought at c.args.task c.cancel_by_call-effect.result x f n seat.1 (did.slots x seat.1) (did.steps x seat.1)).core
+
+pub returns-then-is_none-clause-step : goal.returns-then-is_none-clause-step
+returns-then-is_none-clause-step g c =
+    let m = c.self.inside in
+    let f = c.self.invariant in
+    let at = c.pass-at.result in
+    let there : slice_get m.calls.items m.calls.made ≡ Some (c.requires.0, call.Cancel c.args.task) = ap (λ x. slice_get x.calls x.made) c.self.view_is ∙ c.requires.1 in
+    let is : slice_get m.calls.items m.calls.made ≡ Some (at, call.Cancel c.args.task) = there ∙ ap (λ n. Some (n, call.Cancel c.args.task)) (sym (c.pass-at.ensures.moment (c.requires.0, call.Cancel c.args.task) there)) in
+    let n = next_call m.calls.items m.limit m.taken m.calls.made m.table m.sought at (call.Cancel c.args.task) f is in
+    let empty = none_is (slot_of m.table.slots c.args.task) c.seat.result c.is_none.result c.seat.ensures c.is_none.ensures c.if-is_none.true in
+    rw c.pass-at.ensures.passed (subst (λ (y : CoreView). Takes y (core_of m.calls.items m.limit m.taken (m.calls.made + 1) c.pass.new.self) h.Call (a.Cancel c.args.task ef.Absent)) c.self.view_is (call_cancels_none m.calls.items m.limit m.taken m.calls.made m.table c.pass.new.self m.sought at c.args.task f n empty c.pass.ensures.slots c.pass.ensures.gone).takes)
 
 pub returns-clause-step : goal.returns-clause-step
 returns-clause-step g c =
     let m = c.self.inside in
-    let old = c.args.self.now in
-    let did = c.cancel_task-effect.ensures in
-    let is : slice_get m.calls.items m.calls.made ≡ Some (c.requires.0, call.Cancel c.args.task) = ap (λ x. slice_get x.calls x.made) c.self.view_is ∙ c.requires.1 in
-    let low : c.args.task < length m.tasks = omega (arith, names_a_task m.calls.items 0 0 m.calls.made c.requires.0 c.args.task c.self.invariant.orderly.1 is, c.self.invariant.count) in
-    let same = c.self-2.view_is ∙ is_cancelled_so old c.cancel_task-effect.new.self c.args.task c.cancel_task-effect.result did.yes did.no in
-    let passed = c.pass.ensures.moment (c.requires.0, call.Cancel c.args.task) (ap (λ x. slice_get x.calls x.made) same ∙ c.requires.1) in
-    let moment = c.max-self-inside.ensures ∙ (ap (max m.moment) passed ∙ ap (λ (x : CoreView). max x.moment c.requires.0) c.self.view_is) in
-    rw c.pass.ensures.passed (plan_steps old old _ c.max-self-inside.result c.requires.0 c.args.task c.cancel_task-effect.result (subst (λ (x : CoreView). IsSound (state_of x)) c.self.view_is c.self.invariant.sound) c.requires.1
-    moment (subst (λ (x : CoreView). c.args.task < length x.tasks) c.self.view_is low) did.effect same refl)
+    let f = c.self.invariant in
+    let at = c.pass-at.result in
+    let there : slice_get m.calls.items m.calls.made ≡ Some (c.requires.0, call.Cancel c.args.task) = ap (λ x. slice_get x.calls x.made) c.self.view_is ∙ c.requires.1 in
+    let is : slice_get m.calls.items m.calls.made ≡ Some (at, call.Cancel c.args.task) = there ∙ ap (λ n. Some (n, call.Cancel c.args.task)) (sym (c.pass-at.ensures.moment (c.requires.0, call.Cancel c.args.task) there)) in
+    let n = next_call m.calls.items m.limit m.taken m.calls.made m.table m.sought at (call.Cancel c.args.task) f is in
+    let seat = there_is (slot_of m.table.slots c.args.task) c.seat.result c.is_none.result c.seat.ensures c.is_none.ensures c.if-is_none.false in
+    let x = seat.0 in
+    let did = c.cancel_by_call-effect.ensures in
+    rw c.pass-at.ensures.passed (subst (λ (y : CoreView). Takes y (core_of m.calls.items m.limit m.taken (m.calls.made + 1) c.cancel_by_call-effect.new.self) h.Call (a.Cancel c.args.task c.cancel_by_call-effect.result)) c.self.view_is (call_cancels m.calls.items m.limit m.taken m.calls.made m.table c.cancel_by_call-effect.new.self m.sought at c.args.task c.cancel_by_call-effect.result x f n seat.1 (did.slots x seat.1) (did.steps x seat.1)).takes)
+
+pub returns-then-is_none-clause-uncancelled : goal.returns-then-is_none-clause-uncancelled
+returns-then-is_none-clause-uncancelled g c =
+    let m = c.self.inside in
+    let f = c.self.invariant in
+    let at = c.pass-at.result in
+    let there : slice_get m.calls.items m.calls.made ≡ Some (c.requires.0, call.Cancel c.args.task) = ap (λ x. slice_get x.calls x.made) c.self.view_is ∙ c.requires.1 in
+    let is : slice_get m.calls.items m.calls.made ≡ Some (at, call.Cancel c.args.task) = there ∙ ap (λ n. Some (n, call.Cancel c.args.task)) (sym (c.pass-at.ensures.moment (c.requires.0, call.Cancel c.args.task) there)) in
+    let n = next_call m.calls.items m.limit m.taken m.calls.made m.table m.sought at (call.Cancel c.args.task) f is in
+    let empty = none_is (slot_of m.table.slots c.args.task) c.seat.result c.is_none.result c.seat.ensures c.is_none.ensures c.if-is_none.true in
+    subst (λ (y : CoreView). uncancelled_in (tasks_at c.pass.new.self.slots) ≤ uncancelled_in y.tasks) c.self.view_is (call_cancels_none m.calls.items m.limit m.taken m.calls.made m.table c.pass.new.self m.sought at c.args.task f n empty c.pass.ensures.slots c.pass.ensures.gone).fewer
 
 pub returns-clause-uncancelled : goal.returns-clause-uncancelled
 returns-clause-uncancelled g c =
     let m = c.self.inside in
-    let old = c.args.self.now in
-    let did = c.cancel_task-effect.ensures in
-    let is : slice_get m.calls.items m.calls.made ≡ Some (c.requires.0, call.Cancel c.args.task) = ap (λ x. slice_get x.calls x.made) c.self.view_is ∙ c.requires.1 in
-    let low : c.args.task < length m.tasks = omega (arith, names_a_task m.calls.items 0 0 m.calls.made c.requires.0 c.args.task c.self.invariant.orderly.1 is, c.self.invariant.count) in
-    let same = c.self-2.view_is ∙ is_cancelled_so old c.cancel_task-effect.new.self c.args.task c.cancel_task-effect.result did.yes did.no in
-    omega (arith, ap (λ (x : CoreView). uncancelled_in x.tasks) same, cancelled_fewer old.policies.removes old.tasks c.args.task c.cancel_task-effect.result (subst (λ (x : CoreView). c.args.task < length x.tasks) c.self.view_is low))
+    let f = c.self.invariant in
+    let at = c.pass-at.result in
+    let there : slice_get m.calls.items m.calls.made ≡ Some (c.requires.0, call.Cancel c.args.task) = ap (λ x. slice_get x.calls x.made) c.self.view_is ∙ c.requires.1 in
+    let is : slice_get m.calls.items m.calls.made ≡ Some (at, call.Cancel c.args.task) = there ∙ ap (λ n. Some (n, call.Cancel c.args.task)) (sym (c.pass-at.ensures.moment (c.requires.0, call.Cancel c.args.task) there)) in
+    let n = next_call m.calls.items m.limit m.taken m.calls.made m.table m.sought at (call.Cancel c.args.task) f is in
+    let seat = there_is (slot_of m.table.slots c.args.task) c.seat.result c.is_none.result c.seat.ensures c.is_none.ensures c.if-is_none.false in
+    let x = seat.0 in
+    let did = c.cancel_by_call-effect.ensures in
+    subst (λ (y : CoreView). uncancelled_in (tasks_at c.cancel_by_call-effect.new.self.slots) ≤ uncancelled_in y.tasks) c.self.view_is (call_cancels m.calls.items m.limit m.taken m.calls.made m.table c.cancel_by_call-effect.new.self m.sought at c.args.task c.cancel_by_call-effect.result x f n seat.1 (did.slots x seat.1) (did.steps x seat.1)).fewer

@@ -27,7 +27,7 @@ returns-clause-steps g c =
     ]
     in
     one_step old new c.args.out.now.items c.push_reserved.new.self.items happening.Call answer takes
-    (c.push_reserved.ensures.items ∙ ap (λ line. c.args.out.now.items ++ line ∷ []) c.new.ensures ∙ ap (λ (m : CoreView). c.args.out.now.items ++ answer_line m.moment answer ∷ []) c.self-2.view_is)
+    (c.push_reserved.ensures.items ∙ ap (λ line. c.args.out.now.items ++ line ∷ []) c.new.ensures ∙ ap (λ n. c.args.out.now.items ++ answer_line n answer ∷ []) c.now.ensures.value ∙ ap (λ (m : CoreView). c.args.out.now.items ++ answer_line m.moment answer ∷ []) c.self-2.view_is)
 
 pub returns-clause-history : goal.returns-clause-history
 returns-clause-history g c = step_continues c.args.self.now _ c.args.out.now.items c.push_reserved.new.self.items happening.Call (returns-clause-steps g c)

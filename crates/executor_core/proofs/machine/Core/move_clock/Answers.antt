@@ -11,7 +11,7 @@ use Rattle.executor_core.proofs.machine.Core.move_clock.Goals as goal
 pub returns-clause-steps : goal.returns-clause-steps
 returns-clause-steps g c =
     one_step c.args.self.now c.answer_clock-answer.new.self c.args.out.now.items c.push_reserved.new.self.items (h.Clock c.args.moment) c.answer_clock-answer.result c.answer_clock-answer.ensures.step
-    (c.push_reserved.ensures.items ∙ ap (λ line. c.args.out.now.items ++ line ∷ []) c.new.ensures ∙ ap (λ (m : CoreView). c.args.out.now.items ++ answer_line m.moment c.answer_clock-answer.result ∷ []) c.self.view_is)
+    (c.push_reserved.ensures.items ∙ ap (λ line. c.args.out.now.items ++ line ∷ []) c.new.ensures ∙ ap (λ n. c.args.out.now.items ++ answer_line n c.answer_clock-answer.result ∷ []) c.now.ensures.value ∙ ap (λ (m : CoreView). c.args.out.now.items ++ answer_line m.moment c.answer_clock-answer.result ∷ []) c.self.view_is)
 
 pub returns-clause-history : goal.returns-clause-history
 returns-clause-history g c = step_continues c.args.self.now _ c.args.out.now.items c.push_reserved.new.self.items (h.Clock c.args.moment) (returns-clause-steps g c)

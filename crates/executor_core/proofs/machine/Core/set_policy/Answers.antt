@@ -1,46 +1,159 @@
-use Rattle.std.proofs.Common.{◌≡◌, Some, refl, ap, sym, ◌∙◌, ◌++◌, ◌∷◌, []}
+-- The next call sets a policy, and sweeps where the executor is shut.
+use Rattle.std.proofs.Common.{◌≡◌, ℕ, ◌+◌, ◌≤◌, ◌++◌, ◌∷◌, [], Some, vec_capacity, sym, ap, ◌∙◌, arith, subst}
 use Rattle.std.specs.Prelude.{slice_get, vec_len}
 use Rattle.queue_code.specs.declared.call.CodeCall.TheVariants as call
-use Rattle.executor_model.proofs.Called.{called_at}
-use Rattle.executor_core.proofs.Calling.{made_kept}
-use Rattle.executor_core.proofs.SweepSteps.{policy_sweep_steps, policy_steps, sweep_room, pass_room}
+use Rattle.executor_model.specs.declared.types.Answer.TheVariants as a
+use Rattle.executor_model.specs.declared.types.Happening.TheVariants as h
+use Rattle.executor_model.specs.declared.types.Line.{Line}
+use Rattle.executor_model.specs.Answers.{bare}
+use Rattle.task_table.specs.Tables.{TableView, CallSteps}
+use Rattle.executor_core.specs.CoreView.{CoreView, Steps, room_of}
+use Rattle.executor_core.specs.own.Invariants.{core_of}
+use Rattle.executor_core.proofs.NextCalls.{next_call}
+use Rattle.executor_core.proofs.Sweeping.{policy_sweeping, sweep_few, sweep_within, sweep_sought, sweeping_core, sweeping_room, settled_stays, settled_steps, settled_room}
+use Rattle.sched_time.specs.Policies.{set_policy}
+use Rattle.task_table.proofs.Policies.{policy_steps}
 use Rattle.executor_core.proofs.machine.Core.set_policy.Goals as goal
+
+pub set-requires-clause-limit : goal.set-requires-clause-limit
+set-requires-clause-limit g c =
+    let m = c.self.inside in
+    let f = c.self.invariant in
+    let at = c.pass-at.result in
+    let there : slice_get m.calls.items m.calls.made ≡ Some (c.requires.call.0, call.SetPolicy c.args.which c.args.value) = ap (λ (x : CoreView). slice_get x.calls x.made) c.self.view_is ∙ c.requires.call.1 in
+    let is : slice_get m.calls.items m.calls.made ≡ Some (at, call.SetPolicy c.args.which c.args.value) = there ∙ ap (λ (n : ℕ). Some (n, call.SetPolicy c.args.which c.args.value)) (sym (c.pass-at.ensures.moment (c.requires.call.0, call.SetPolicy c.args.which c.args.value) there)) in
+    let n = next_call m.calls.items m.limit m.taken m.calls.made m.table m.sought at (call.SetPolicy c.args.which c.args.value) f is in
+    n.limit
+
+pub set-requires-2-clause-limit : goal.set-requires-2-clause-limit
+set-requires-2-clause-limit g c =
+    let m = c.self.inside in
+    let f = c.self.invariant in
+    let at = c.pass-at.result in
+    let there : slice_get m.calls.items m.calls.made ≡ Some (c.requires.call.0, call.SetPolicy c.args.which c.args.value) = ap (λ (x : CoreView). slice_get x.calls x.made) c.self.view_is ∙ c.requires.call.1 in
+    let is : slice_get m.calls.items m.calls.made ≡ Some (at, call.SetPolicy c.args.which c.args.value) = there ∙ ap (λ (n : ℕ). Some (n, call.SetPolicy c.args.which c.args.value)) (sym (c.pass-at.ensures.moment (c.requires.call.0, call.SetPolicy c.args.which c.args.value) there)) in
+    let n = next_call m.calls.items m.limit m.taken m.calls.made m.table m.sought at (call.SetPolicy c.args.which c.args.value) f is in
+    n.limit
+
+pub sweep-self-inside-requires-clause-few : goal.sweep-self-inside-requires-clause-few
+sweep-self-inside-requires-clause-few g c =
+    let m = c.self.inside in
+    let f = c.self.invariant in
+    let at = c.pass-at.result in
+    let there : slice_get m.calls.items m.calls.made ≡ Some (c.requires.call.0, call.SetPolicy c.args.which c.args.value) = ap (λ (x : CoreView). slice_get x.calls x.made) c.self.view_is ∙ c.requires.call.1 in
+    let is : slice_get m.calls.items m.calls.made ≡ Some (at, call.SetPolicy c.args.which c.args.value) = there ∙ ap (λ (n : ℕ). Some (n, call.SetPolicy c.args.which c.args.value)) (sym (c.pass-at.ensures.moment (c.requires.call.0, call.SetPolicy c.args.which c.args.value) there)) in
+    let n = next_call m.calls.items m.limit m.taken m.calls.made m.table m.sought at (call.SetPolicy c.args.which c.args.value) f is in
+    let mid = c.drop_kept.new.table in
+    let set = c.set-2.new.self in
+    let s = policy_sweeping m.calls.items m.limit m.taken m.calls.made m.table mid set m.sought at c.args.which c.args.value f n (sym c.setting_sweeps-still.ensures ∙ c.if-still.false) c.drop_kept.ensures.unkept c.drop_kept.ensures.steps c.drop_kept.ensures.none c.set-2.ensures in
+    sweep_few m.calls.items m.limit m.taken m.calls.made m.table mid set m.sought at f s.by
+
+pub sweep-self-inside-requires-clause-room : goal.sweep-self-inside-requires-clause-room
+sweep-self-inside-requires-clause-room g c =
+    let m = c.self.inside in
+    let f = c.self.invariant in
+    let at = c.pass-at.result in
+    let there : slice_get m.calls.items m.calls.made ≡ Some (c.requires.call.0, call.SetPolicy c.args.which c.args.value) = ap (λ (x : CoreView). slice_get x.calls x.made) c.self.view_is ∙ c.requires.call.1 in
+    let is : slice_get m.calls.items m.calls.made ≡ Some (at, call.SetPolicy c.args.which c.args.value) = there ∙ ap (λ (n : ℕ). Some (n, call.SetPolicy c.args.which c.args.value)) (sym (c.pass-at.ensures.moment (c.requires.call.0, call.SetPolicy c.args.which c.args.value) there)) in
+    let n = next_call m.calls.items m.limit m.taken m.calls.made m.table m.sought at (call.SetPolicy c.args.which c.args.value) f is in
+    let mid = c.drop_kept.new.table in
+    let set = c.set-2.new.self in
+    let s = policy_sweeping m.calls.items m.limit m.taken m.calls.made m.table mid set m.sought at c.args.which c.args.value f n (sym c.setting_sweeps-still.ensures ∙ c.if-still.false) c.drop_kept.ensures.unkept c.drop_kept.ensures.steps c.drop_kept.ensures.none c.set-2.ensures in
+    omega (
+      arith,
+      c.push_reserved-2.ensures.capacity,
+      sweep_within m.calls.items m.limit m.taken m.calls.made m.table mid set at (vec_len c.args.out.now) (vec_len c.push_reserved-2.new.self) (vec_capacity c.args.out.now) s.by (omega (arith, c.requires.room, ap room_of c.self.view_is)) c.push_reserved-2.ensures.len,
+    )
+
+pub sweep-self-inside-requires-clause-sought : goal.sweep-self-inside-requires-clause-sought
+sweep-self-inside-requires-clause-sought g c =
+    let m = c.self.inside in
+    let f = c.self.invariant in
+    let at = c.pass-at.result in
+    let there : slice_get m.calls.items m.calls.made ≡ Some (c.requires.call.0, call.SetPolicy c.args.which c.args.value) = ap (λ (x : CoreView). slice_get x.calls x.made) c.self.view_is ∙ c.requires.call.1 in
+    let is : slice_get m.calls.items m.calls.made ≡ Some (at, call.SetPolicy c.args.which c.args.value) = there ∙ ap (λ (n : ℕ). Some (n, call.SetPolicy c.args.which c.args.value)) (sym (c.pass-at.ensures.moment (c.requires.call.0, call.SetPolicy c.args.which c.args.value) there)) in
+    let n = next_call m.calls.items m.limit m.taken m.calls.made m.table m.sought at (call.SetPolicy c.args.which c.args.value) f is in
+    let mid = c.drop_kept.new.table in
+    let set = c.set-2.new.self in
+    let s = policy_sweeping m.calls.items m.limit m.taken m.calls.made m.table mid set m.sought at c.args.which c.args.value f n (sym c.setting_sweeps-still.ensures ∙ c.if-still.false) c.drop_kept.ensures.unkept c.drop_kept.ensures.steps c.drop_kept.ensures.none c.set-2.ensures in
+    λ q. sweep_sought m.calls.items m.limit m.taken m.calls.made m.table mid set m.sought at f s.by n.ahead q
 
 pub invariant_of-self : goal.invariant_of-self
 invariant_of-self g c =
     let m = c.self.inside in
-    let is : slice_get m.calls.items m.calls.made ≡ Some (c.requires.call.0, call.SetPolicy c.args.which c.args.value) = ap (λ x. slice_get x.calls x.made) c.self.view_is ∙ c.requires.call.1 in
-    rw c.pass-self-inside.ensures.passed (made_kept _ m.queue.entries m.kept.entries m.sought c.pass-self-inside.result c.requires.call.0 (call.SetPolicy c.args.which c.args.value) c.with-self-inside.result m.shut m.stopped c.self.invariant is (called_at m.moment c.requires.call.0 c.pass-self-inside.result (c.self.invariant.ahead (c.requires.call.0, call.SetPolicy c.args.which c.args.value) is) (c.pass-self-inside.ensures.moment (c.requires.call.0, call.SetPolicy c.args.which c.args.value) is)) (λ q. q))
+    let f = c.self.invariant in
+    let at = c.pass-at.result in
+    let there : slice_get m.calls.items m.calls.made ≡ Some (c.requires.call.0, call.SetPolicy c.args.which c.args.value) = ap (λ (x : CoreView). slice_get x.calls x.made) c.self.view_is ∙ c.requires.call.1 in
+    let is : slice_get m.calls.items m.calls.made ≡ Some (at, call.SetPolicy c.args.which c.args.value) = there ∙ ap (λ (n : ℕ). Some (n, call.SetPolicy c.args.which c.args.value)) (sym (c.pass-at.ensures.moment (c.requires.call.0, call.SetPolicy c.args.which c.args.value) there)) in
+    let n = next_call m.calls.items m.limit m.taken m.calls.made m.table m.sought at (call.SetPolicy c.args.which c.args.value) f is in
+    let steps : CallSteps m.table c.set.new.self (at, call.SetPolicy c.args.which c.args.value) (bare (a.Policy c.args.which c.args.value)) = subst (λ (v : TableView). CallSteps m.table v (at, call.SetPolicy c.args.which c.args.value) (bare (a.Policy c.args.which c.args.value))) (sym c.set.ensures) (policy_steps m.table at c.args.which c.args.value (sym c.setting_sweeps-still.ensures ∙ c.if-still.true) n.ahead) in
+    rw c.pass-at.ensures.passed (settled_stays m.calls.items m.limit m.taken m.calls.made m.table c.set.new.self m.sought at (call.SetPolicy c.args.which c.args.value) (a.Policy c.args.which c.args.value) (set_policy c.args.which c.args.value m.table.policies) f n c.set.ensures steps (λ i task timing delay e. absurd cc))
 
-pub invariant_of-self-else-setting_sweeps : goal.invariant_of-self-else-setting_sweeps
-invariant_of-self-else-setting_sweeps g c =
+pub invariant_of-self-2 : goal.invariant_of-self-2
+invariant_of-self-2 g c =
     let m = c.self.inside in
-    let is : slice_get m.calls.items m.calls.made ≡ Some (c.requires.call.0, call.SetPolicy c.args.which c.args.value) = ap (λ x. slice_get x.calls x.made) c.self.view_is ∙ c.requires.call.1 in
-    rw c.pass-self-inside.ensures.passed (made_kept _ m.queue.entries m.kept.entries m.sought c.pass-self-inside.result c.requires.call.0 (call.SetPolicy c.args.which c.args.value) c.with-self-inside.result m.shut m.stopped c.self.invariant is (called_at m.moment c.requires.call.0 c.pass-self-inside.result (c.self.invariant.ahead (c.requires.call.0, call.SetPolicy c.args.which c.args.value) is) (c.pass-self-inside.ensures.moment (c.requires.call.0, call.SetPolicy c.args.which c.args.value) is)) (λ q. q))
+    let f = c.self.invariant in
+    let at = c.pass-at.result in
+    let there : slice_get m.calls.items m.calls.made ≡ Some (c.requires.call.0, call.SetPolicy c.args.which c.args.value) = ap (λ (x : CoreView). slice_get x.calls x.made) c.self.view_is ∙ c.requires.call.1 in
+    let is : slice_get m.calls.items m.calls.made ≡ Some (at, call.SetPolicy c.args.which c.args.value) = there ∙ ap (λ (n : ℕ). Some (n, call.SetPolicy c.args.which c.args.value)) (sym (c.pass-at.ensures.moment (c.requires.call.0, call.SetPolicy c.args.which c.args.value) there)) in
+    let n = next_call m.calls.items m.limit m.taken m.calls.made m.table m.sought at (call.SetPolicy c.args.which c.args.value) f is in
+    let mid = c.drop_kept.new.table in
+    let set = c.set-2.new.self in
+    let s = policy_sweeping m.calls.items m.limit m.taken m.calls.made m.table mid set m.sought at c.args.which c.args.value f n (sym c.setting_sweeps-still.ensures ∙ c.if-still.false) c.drop_kept.ensures.unkept c.drop_kept.ensures.steps c.drop_kept.ensures.none c.set-2.ensures in
+    let did = sweeping_core m.calls.items m.limit m.taken m.calls.made m.table mid set c.sweep-self-inside.new.table m.sought c.sweep-self-inside.result at (call.SetPolicy c.args.which c.args.value) (a.Policy c.args.which c.args.value) c.args.out.now.items c.push_reserved-2.new.self.items c.sweep-self-inside.new.out.items f n s
+    c.sweep-self-inside.ensures.swept (c.push_reserved-2.ensures.items ∙ ap (λ (l : Line). c.args.out.now.items ++ l ∷ []) c.new-2.ensures) c.sweep-self-inside.ensures.lines c.sweep-self-inside.ensures.sought
+    in
+    rw c.pass-at.ensures.passed (did.1)
 
-pub returns-then-setting_sweeps-clause-steps : goal.returns-then-setting_sweeps-clause-steps
-returns-then-setting_sweeps-clause-steps g c =
+pub returns-then-still-clause-steps : goal.returns-then-still-clause-steps
+returns-then-still-clause-steps g c =
     let m = c.self.inside in
-    let is : slice_get m.calls.items m.calls.made ≡ Some (c.requires.call.0, call.SetPolicy c.args.which c.args.value) = ap (λ x. slice_get x.calls x.made) c.self.view_is ∙ c.requires.call.1 in
-    policy_sweep_steps _ c.args.self.now c.sweep.new.self c.pass-self-inside.result c.requires.call.0 c.args.which c.args.value c.with-self-inside.result c.args.out.now.items c.push_reserved.new.self.items c.sweep.new.out.items is c.self.invariant.count
-    (sym c.setting_sweeps.ensures ∙ c.if-setting_sweeps.true) (called_at m.moment c.requires.call.0 c.pass-self-inside.result (c.self.invariant.ahead (c.requires.call.0, call.SetPolicy c.args.which c.args.value) is) (c.pass-self-inside.ensures.moment (c.requires.call.0, call.SetPolicy c.args.which c.args.value) is)) c.with-self-inside.ensures c.self.view_is (c.push_reserved.ensures.items ∙ ap (λ line. c.args.out.now.items ++ line ∷ []) c.new.ensures) (rw c.pass-self-inside.ensures.passed at c.sweep.ensures.sweeps)
+    let f = c.self.invariant in
+    let at = c.pass-at.result in
+    let there : slice_get m.calls.items m.calls.made ≡ Some (c.requires.call.0, call.SetPolicy c.args.which c.args.value) = ap (λ (x : CoreView). slice_get x.calls x.made) c.self.view_is ∙ c.requires.call.1 in
+    let is : slice_get m.calls.items m.calls.made ≡ Some (at, call.SetPolicy c.args.which c.args.value) = there ∙ ap (λ (n : ℕ). Some (n, call.SetPolicy c.args.which c.args.value)) (sym (c.pass-at.ensures.moment (c.requires.call.0, call.SetPolicy c.args.which c.args.value) there)) in
+    let n = next_call m.calls.items m.limit m.taken m.calls.made m.table m.sought at (call.SetPolicy c.args.which c.args.value) f is in
+    let steps : CallSteps m.table c.set.new.self (at, call.SetPolicy c.args.which c.args.value) (bare (a.Policy c.args.which c.args.value)) = subst (λ (v : TableView). CallSteps m.table v (at, call.SetPolicy c.args.which c.args.value) (bare (a.Policy c.args.which c.args.value))) (sym c.set.ensures) (policy_steps m.table at c.args.which c.args.value (sym c.setting_sweeps-still.ensures ∙ c.if-still.true) n.ahead) in
+    rw c.pass-at.ensures.passed (subst (λ (x : CoreView). Steps x (core_of m.calls.items m.limit m.taken (m.calls.made + 1) c.set.new.self) c.args.out.now.items c.push_reserved.new.self.items (h.Call ∷ [])) c.self.view_is
+    (settled_steps m.calls.items m.limit m.taken m.calls.made m.table c.set.new.self m.sought at (call.SetPolicy c.args.which c.args.value) (a.Policy c.args.which c.args.value) (set_policy c.args.which c.args.value m.table.policies) f n c.args.out.now.items c.push_reserved.new.self.items c.set.ensures steps (λ i task timing delay e. absurd cc) (c.push_reserved.ensures.items ∙ ap (λ (l : Line). c.args.out.now.items ++ l ∷ []) c.new.ensures)))
 
-pub returns-then-setting_sweeps-clause-room : goal.returns-then-setting_sweeps-clause-room
-returns-then-setting_sweeps-clause-room g c =
+pub returns-then-still-clause-room : goal.returns-then-still-clause-room
+returns-then-still-clause-room g c =
     let m = c.self.inside in
-    let is : slice_get m.calls.items m.calls.made ≡ Some (c.requires.call.0, call.SetPolicy c.args.which c.args.value) = ap (λ x. slice_get x.calls x.made) c.self.view_is ∙ c.requires.call.1 in
-    sweep_room _ c.args.self.now _ c.sweep.new.self (c.requires.call.0, call.SetPolicy c.args.which c.args.value) (vec_len c.args.out.now) (vec_len c.push_reserved.new.self) (vec_len c.sweep.new.out) is c.self.view_is refl refl refl
-    (rw c.pass-self-inside.ensures.passed at c.sweep.ensures.sweeps.rest) c.push_reserved.ensures.len c.sweep.ensures.room
+    let f = c.self.invariant in
+    let at = c.pass-at.result in
+    let there : slice_get m.calls.items m.calls.made ≡ Some (c.requires.call.0, call.SetPolicy c.args.which c.args.value) = ap (λ (x : CoreView). slice_get x.calls x.made) c.self.view_is ∙ c.requires.call.1 in
+    let is : slice_get m.calls.items m.calls.made ≡ Some (at, call.SetPolicy c.args.which c.args.value) = there ∙ ap (λ (n : ℕ). Some (n, call.SetPolicy c.args.which c.args.value)) (sym (c.pass-at.ensures.moment (c.requires.call.0, call.SetPolicy c.args.which c.args.value) there)) in
+    let n = next_call m.calls.items m.limit m.taken m.calls.made m.table m.sought at (call.SetPolicy c.args.which c.args.value) f is in
+    rw c.pass-at.ensures.passed (subst (λ (x : CoreView). vec_len c.push_reserved.new.self + room_of (core_of m.calls.items m.limit m.taken (m.calls.made + 1) c.set.new.self) ≤ vec_len c.args.out.now + room_of x) c.self.view_is
+    (settled_room m.calls.items m.limit m.taken m.calls.made m.table c.set.new.self (vec_len c.args.out.now) (vec_len c.push_reserved.new.self) (ap (λ (v : TableView). v.slots) c.set.ensures) n.within c.push_reserved.ensures.len))
 
-pub returns-else-setting_sweeps-clause-steps : goal.returns-else-setting_sweeps-clause-steps
-returns-else-setting_sweeps-clause-steps g c =
+pub returns-clause-steps : goal.returns-clause-steps
+returns-clause-steps g c =
     let m = c.self.inside in
-    let is : slice_get m.calls.items m.calls.made ≡ Some (c.requires.call.0, call.SetPolicy c.args.which c.args.value) = ap (λ x. slice_get x.calls x.made) c.self.view_is ∙ c.requires.call.1 in
-    rw c.pass-self-inside.ensures.passed (policy_steps _ c.args.self.now c.pass-self-inside.result c.requires.call.0 c.args.which c.args.value c.with-self-inside.result c.args.out.now.items c.push_reserved.new.self.items is
-    (sym c.setting_sweeps.ensures ∙ c.if-setting_sweeps.false) (called_at m.moment c.requires.call.0 c.pass-self-inside.result (c.self.invariant.ahead (c.requires.call.0, call.SetPolicy c.args.which c.args.value) is) (c.pass-self-inside.ensures.moment (c.requires.call.0, call.SetPolicy c.args.which c.args.value) is)) c.with-self-inside.ensures c.self.view_is (c.push_reserved.ensures.items ∙ ap (λ line. c.args.out.now.items ++ line ∷ []) c.new.ensures))
+    let f = c.self.invariant in
+    let at = c.pass-at.result in
+    let there : slice_get m.calls.items m.calls.made ≡ Some (c.requires.call.0, call.SetPolicy c.args.which c.args.value) = ap (λ (x : CoreView). slice_get x.calls x.made) c.self.view_is ∙ c.requires.call.1 in
+    let is : slice_get m.calls.items m.calls.made ≡ Some (at, call.SetPolicy c.args.which c.args.value) = there ∙ ap (λ (n : ℕ). Some (n, call.SetPolicy c.args.which c.args.value)) (sym (c.pass-at.ensures.moment (c.requires.call.0, call.SetPolicy c.args.which c.args.value) there)) in
+    let n = next_call m.calls.items m.limit m.taken m.calls.made m.table m.sought at (call.SetPolicy c.args.which c.args.value) f is in
+    let mid = c.drop_kept.new.table in
+    let set = c.set-2.new.self in
+    let s = policy_sweeping m.calls.items m.limit m.taken m.calls.made m.table mid set m.sought at c.args.which c.args.value f n (sym c.setting_sweeps-still.ensures ∙ c.if-still.false) c.drop_kept.ensures.unkept c.drop_kept.ensures.steps c.drop_kept.ensures.none c.set-2.ensures in
+    let did = sweeping_core m.calls.items m.limit m.taken m.calls.made m.table mid set c.sweep-self-inside.new.table m.sought c.sweep-self-inside.result at (call.SetPolicy c.args.which c.args.value) (a.Policy c.args.which c.args.value) c.args.out.now.items c.push_reserved-2.new.self.items c.sweep-self-inside.new.out.items f n s
+    c.sweep-self-inside.ensures.swept (c.push_reserved-2.ensures.items ∙ ap (λ (l : Line). c.args.out.now.items ++ l ∷ []) c.new-2.ensures) c.sweep-self-inside.ensures.lines c.sweep-self-inside.ensures.sought
+    in
+    rw c.pass-at.ensures.passed (subst (λ (x : CoreView). Steps x (core_of m.calls.items m.limit m.taken (m.calls.made + 1) c.sweep-self-inside.new.table) c.args.out.now.items c.sweep-self-inside.new.out.items (h.Call ∷ [])) c.self.view_is did.0)
 
-pub returns-else-setting_sweeps-clause-room : goal.returns-else-setting_sweeps-clause-room
-returns-else-setting_sweeps-clause-room g c =
+pub returns-clause-room : goal.returns-clause-room
+returns-clause-room g c =
     let m = c.self.inside in
-    let is : slice_get m.calls.items m.calls.made ≡ Some (c.requires.call.0, call.SetPolicy c.args.which c.args.value) = ap (λ x. slice_get x.calls x.made) c.self.view_is ∙ c.requires.call.1 in
-    rw c.pass-self-inside.ensures.passed (pass_room _ c.args.self.now c.pass-self-inside.result c.with-self-inside.result (c.requires.call.0, call.SetPolicy c.args.which c.args.value) (vec_len c.args.out.now) (vec_len c.push_reserved.new.self) is c.self.view_is c.push_reserved.ensures.len)
+    let f = c.self.invariant in
+    let at = c.pass-at.result in
+    let there : slice_get m.calls.items m.calls.made ≡ Some (c.requires.call.0, call.SetPolicy c.args.which c.args.value) = ap (λ (x : CoreView). slice_get x.calls x.made) c.self.view_is ∙ c.requires.call.1 in
+    let is : slice_get m.calls.items m.calls.made ≡ Some (at, call.SetPolicy c.args.which c.args.value) = there ∙ ap (λ (n : ℕ). Some (n, call.SetPolicy c.args.which c.args.value)) (sym (c.pass-at.ensures.moment (c.requires.call.0, call.SetPolicy c.args.which c.args.value) there)) in
+    let n = next_call m.calls.items m.limit m.taken m.calls.made m.table m.sought at (call.SetPolicy c.args.which c.args.value) f is in
+    let mid = c.drop_kept.new.table in
+    let set = c.set-2.new.self in
+    let s = policy_sweeping m.calls.items m.limit m.taken m.calls.made m.table mid set m.sought at c.args.which c.args.value f n (sym c.setting_sweeps-still.ensures ∙ c.if-still.false) c.drop_kept.ensures.unkept c.drop_kept.ensures.steps c.drop_kept.ensures.none c.set-2.ensures in
+    rw c.pass-at.ensures.passed (subst (λ (x : CoreView). vec_len c.sweep-self-inside.new.out + room_of (core_of m.calls.items m.limit m.taken (m.calls.made + 1) c.sweep-self-inside.new.table) ≤ vec_len c.args.out.now + room_of x) c.self.view_is
+    (sweeping_room m.calls.items m.limit m.taken m.calls.made m.table mid set c.sweep-self-inside.new.table at (vec_len c.args.out.now) (vec_len c.push_reserved-2.new.self) (vec_len c.sweep-self-inside.new.out) s.by n.within c.sweep-self-inside.ensures.swept c.push_reserved-2.ensures.len c.sweep-self-inside.ensures.room))

@@ -1,83 +1,164 @@
-use Rattle.std.proofs.Common.{◌≡◌, ◌+◌, ◌<◌, length, Some, None, ap, ◌∙◌, arith}
-use Rattle.std.specs.Prelude.{slice_get, slice_index_or}
-use Rattle.std.proofs.lemmas.List.{length-map}
+-- The submission of a task, accepted or refused.
+use Rattle.std.proofs.Common.{◌≡◌, ◌+◌, ◌≤◌, Some, sym, ap, ◌∙◌, subst}
+use Rattle.std.specs.Prelude.{slice_get}
 use Rattle.queue_code.specs.declared.call.CodeCall.TheVariants as call
-use Rattle.executor_core.specs.CoreView.{CoreView}
-use Rattle.executor_model.specs.own.Phases.{queued}
-use Rattle.executor_model.proofs.Tables.{submission, queued_at}
-use Rattle.executor_model.proofs.Called.{called_at}
-use Rattle.executor_core.proofs.Calling.{passed_kept}
+use Rattle.std.proofs.lemmas.Bool.{eq-eqb}
+use Rattle.executor_model.specs.declared.types.Happening.TheVariants as h
+use Rattle.executor_model.specs.declared.types.Answer.TheVariants as a
 use Rattle.executor_model.specs.declared.types.Refusal.TheVariants as refusal
-use Rattle.executor_core.proofs.Submits.{refuse_steps, shut_reply, submit_keeps_in, submit_steps_in, submit_fewer}
+use Rattle.executor_model.specs.Answers.{bare, kind_of}
+use Rattle.executor_model.specs.Tasks.{uncancelled_in}
+use Rattle.task_table.specs.Seats.{IsNew}
+use Rattle.task_table.specs.Tables.{CallSteps}
+use Rattle.task_table.specs.Changes.{admitted}
+use Rattle.plan_table.specs.Numbered.{tasks_at}
+use Rattle.executor_core.specs.CoreView.{CoreView}
+use Rattle.executor_core.specs.own.Invariants.{core_of}
+use Rattle.executor_core.specs.own.OwnSteps.{Takes}
+use Rattle.executor_core.proofs.NextCalls.{next_call}
+use Rattle.executor_core.proofs.Submits.{submits, accepts, refuses}
 use Rattle.executor_core.proofs.machine.Core.submit.Goals as goal
 
-pub overflow_add-due : goal.overflow_add-due
-overflow_add-due g c =
+pub refuse-requires-clause-moment : goal.refuse-requires-clause-moment
+refuse-requires-clause-moment g c =
     let m = c.self.inside in
+    let f = c.self.invariant in
     let is : slice_get m.calls.items m.calls.made ≡ Some (c.args.moment, call.Submit c.args.task c.args.timing c.args.delay) = ap (λ x. slice_get x.calls x.made) c.self.view_is ∙ c.requires in
-    let sub = submission m.calls.items 0 0 m.calls.made c.args.moment c.args.task c.args.timing c.args.delay c.self.invariant.orderly.1 is in
-    omega (arith, sub.moment, sub.within)
+    let n = next_call m.calls.items m.limit m.taken m.calls.made m.table m.sought c.args.moment (call.Submit c.args.task c.args.timing c.args.delay) f is in
+    let s = submits m.calls.items m.limit m.taken m.calls.made m.table m.sought c.args.moment c.args.task c.args.delay c.args.timing f is in
+    n.ahead
 
-pub submit-requires-clause-known : goal.submit-requires-clause-known
-submit-requires-clause-known g c =
+pub refuse-requires-clause-limit : goal.refuse-requires-clause-limit
+refuse-requires-clause-limit g c =
     let m = c.self.inside in
+    let f = c.self.invariant in
     let is : slice_get m.calls.items m.calls.made ≡ Some (c.args.moment, call.Submit c.args.task c.args.timing c.args.delay) = ap (λ x. slice_get x.calls x.made) c.self.view_is ∙ c.requires in
-    let sub = submission m.calls.items 0 0 m.calls.made c.args.moment c.args.task c.args.timing c.args.delay c.self.invariant.orderly.1 is in
-    omega (arith, sub.below, c.self.invariant.count)
+    let n = next_call m.calls.items m.limit m.taken m.calls.made m.table m.sought c.args.moment (call.Submit c.args.task c.args.timing c.args.delay) f is in
+    let s = submits m.calls.items m.limit m.taken m.calls.made m.table m.sought c.args.moment c.args.task c.args.delay c.args.timing f is in
+    n.limit
 
-pub submit-requires-clause-vacant : goal.submit-requires-clause-vacant
-submit-requires-clause-vacant g c =
+pub admit-due-requires-clause-slot : goal.admit-due-requires-clause-slot
+admit-due-requires-clause-slot g c =
     let m = c.self.inside in
+    let f = c.self.invariant in
     let is : slice_get m.calls.items m.calls.made ≡ Some (c.args.moment, call.Submit c.args.task c.args.timing c.args.delay) = ap (λ x. slice_get x.calls x.made) c.self.view_is ∙ c.requires in
-    let sub = submission m.calls.items 0 0 m.calls.made c.args.moment c.args.task c.args.timing c.args.delay c.self.invariant.orderly.1 is in
-    c.self.invariant.fresh c.args.task (omega (arith, sub.number))
+    let n = next_call m.calls.items m.limit m.taken m.calls.made m.table m.sought c.args.moment (call.Submit c.args.task c.args.timing c.args.delay) f is in
+    let s = submits m.calls.items m.limit m.taken m.calls.made m.table m.sought c.args.moment c.args.task c.args.delay c.args.timing f is in
+    s.low
 
-pub insert-requires-clause-known : goal.insert-requires-clause-known
-insert-requires-clause-known g c =
+pub admit-due-requires-clause-empty : goal.admit-due-requires-clause-empty
+admit-due-requires-clause-empty g c =
     let m = c.self.inside in
+    let f = c.self.invariant in
     let is : slice_get m.calls.items m.calls.made ≡ Some (c.args.moment, call.Submit c.args.task c.args.timing c.args.delay) = ap (λ x. slice_get x.calls x.made) c.self.view_is ∙ c.requires in
-    let sub = submission m.calls.items 0 0 m.calls.made c.args.moment c.args.task c.args.timing c.args.delay c.self.invariant.orderly.1 is in
-    omega (arith, sub.below, c.self.invariant.count, ap length c.self.invariant.queue ∙ length-map m.tasks queued)
+    let n = next_call m.calls.items m.limit m.taken m.calls.made m.table m.sought c.args.moment (call.Submit c.args.task c.args.timing c.args.delay) f is in
+    let s = submits m.calls.items m.limit m.taken m.calls.made m.table m.sought c.args.moment c.args.task c.args.delay c.args.timing f is in
+    s.empty
 
-pub insert-requires-clause-absent : goal.insert-requires-clause-absent
-insert-requires-clause-absent g c =
+pub admit-due-requires-clause-number : goal.admit-due-requires-clause-number
+admit-due-requires-clause-number g c =
     let m = c.self.inside in
+    let f = c.self.invariant in
     let is : slice_get m.calls.items m.calls.made ≡ Some (c.args.moment, call.Submit c.args.task c.args.timing c.args.delay) = ap (λ x. slice_get x.calls x.made) c.self.view_is ∙ c.requires in
-    let sub = submission m.calls.items 0 0 m.calls.made c.args.moment c.args.task c.args.timing c.args.delay c.self.invariant.orderly.1 is in
-    ap (λ q. slice_index_or q c.args.task None) c.self.invariant.queue ∙ (queued_at m.tasks c.args.task ∙ ap queued (c.self.invariant.fresh c.args.task (omega (arith, sub.number))))
+    let n = next_call m.calls.items m.limit m.taken m.calls.made m.table m.sought c.args.moment (call.Submit c.args.task c.args.timing c.args.delay) f is in
+    let s = submits m.calls.items m.limit m.taken m.calls.made m.table m.sought c.args.moment c.args.task c.args.delay c.args.timing f is in
+    subst (λ k. IsNew m.table.slots k) (sym c.from.ensures) s.new
+
+pub admit-due-requires-clause-admits : goal.admit-due-requires-clause-admits
+admit-due-requires-clause-admits g c =
+    let m = c.self.inside in
+    let f = c.self.invariant in
+    let is : slice_get m.calls.items m.calls.made ≡ Some (c.args.moment, call.Submit c.args.task c.args.timing c.args.delay) = ap (λ x. slice_get x.calls x.made) c.self.view_is ∙ c.requires in
+    let n = next_call m.calls.items m.limit m.taken m.calls.made m.table m.sought c.args.moment (call.Submit c.args.task c.args.timing c.args.delay) f is in
+    let s = submits m.calls.items m.limit m.taken m.calls.made m.table m.sought c.args.moment c.args.task c.args.delay c.args.timing f is in
+    (eq-eqb c.args.task c.from.result (sym c.from.ensures), eq-eqb c.args.task c.from.result (sym c.from.ensures))
+
+pub admit-due-requires-clause-moment : goal.admit-due-requires-clause-moment
+admit-due-requires-clause-moment g c =
+    let m = c.self.inside in
+    let f = c.self.invariant in
+    let is : slice_get m.calls.items m.calls.made ≡ Some (c.args.moment, call.Submit c.args.task c.args.timing c.args.delay) = ap (λ x. slice_get x.calls x.made) c.self.view_is ∙ c.requires in
+    let n = next_call m.calls.items m.limit m.taken m.calls.made m.table m.sought c.args.moment (call.Submit c.args.task c.args.timing c.args.delay) f is in
+    let s = submits m.calls.items m.limit m.taken m.calls.made m.table m.sought c.args.moment c.args.task c.args.delay c.args.timing f is in
+    n.ahead
+
+pub admit-due-requires-clause-limit : goal.admit-due-requires-clause-limit
+admit-due-requires-clause-limit g c =
+    let m = c.self.inside in
+    let f = c.self.invariant in
+    let is : slice_get m.calls.items m.calls.made ≡ Some (c.args.moment, call.Submit c.args.task c.args.timing c.args.delay) = ap (λ x. slice_get x.calls x.made) c.self.view_is ∙ c.requires in
+    let n = next_call m.calls.items m.limit m.taken m.calls.made m.table m.sought c.args.moment (call.Submit c.args.task c.args.timing c.args.delay) f is in
+    let s = submits m.calls.items m.limit m.taken m.calls.made m.table m.sought c.args.moment c.args.task c.args.delay c.args.timing f is in
+    n.limit
+
+pub admit-due-requires-clause-spans : goal.admit-due-requires-clause-spans
+admit-due-requires-clause-spans g c =
+    let m = c.self.inside in
+    let f = c.self.invariant in
+    let is : slice_get m.calls.items m.calls.made ≡ Some (c.args.moment, call.Submit c.args.task c.args.timing c.args.delay) = ap (λ x. slice_get x.calls x.made) c.self.view_is ∙ c.requires in
+    let n = next_call m.calls.items m.limit m.taken m.calls.made m.table m.sought c.args.moment (call.Submit c.args.task c.args.timing c.args.delay) f is in
+    let s = submits m.calls.items m.limit m.taken m.calls.made m.table m.sought c.args.moment c.args.task c.args.delay c.args.timing f is in
+    (s.span, s.timed)
 
 pub invariant_of-self : goal.invariant_of-self
 invariant_of-self g c =
     let m = c.self.inside in
+    let f = c.self.invariant in
     let is : slice_get m.calls.items m.calls.made ≡ Some (c.args.moment, call.Submit c.args.task c.args.timing c.args.delay) = ap (λ x. slice_get x.calls x.made) c.self.view_is ∙ c.requires in
-    rw c.pass-self-inside.ensures.passed (passed_kept _ m.queue.entries m.kept.entries m.sought c.pass-self-inside.result c.args.moment (call.Submit c.args.task c.args.timing c.args.delay) c.self.invariant is (called_at m.moment c.args.moment c.pass-self-inside.result (c.self.invariant.ahead (c.args.moment, call.Submit c.args.task c.args.timing c.args.delay) is) (c.pass-self-inside.ensures.moment (c.args.moment, call.Submit c.args.task c.args.timing c.args.delay) is)))
+    let n = next_call m.calls.items m.limit m.taken m.calls.made m.table m.sought c.args.moment (call.Submit c.args.task c.args.timing c.args.delay) f is in
+    let s = submits m.calls.items m.limit m.taken m.calls.made m.table m.sought c.args.moment c.args.task c.args.delay c.args.timing f is in
+    rw c.pass.ensures.passed (refuses m.calls.items m.limit m.taken m.calls.made m.table c.refuse.new.self m.sought c.args.moment c.args.task c.args.delay c.args.timing f n c.refuse.ensures.slots c.refuse.ensures.steps).core
 
 pub invariant_of-self-2 : goal.invariant_of-self-2
 invariant_of-self-2 g c =
     let m = c.self.inside in
+    let f = c.self.invariant in
     let is : slice_get m.calls.items m.calls.made ≡ Some (c.args.moment, call.Submit c.args.task c.args.timing c.args.delay) = ap (λ x. slice_get x.calls x.made) c.self.view_is ∙ c.requires in
-    rw c.pass-self-inside.ensures.passed (submit_keeps_in _ m.queue.entries c.insert.new.self.entries m.kept.entries m.sought c.pass-self-inside.result c.args.moment c.args.task c.args.delay c.args.timing c.submit.new.self
-    c.self.invariant is c.if-self.false (called_at m.moment c.args.moment c.pass-self-inside.result (c.self.invariant.ahead (c.args.moment, call.Submit c.args.task c.args.timing c.args.delay) is) (c.pass-self-inside.ensures.moment (c.args.moment, call.Submit c.args.task c.args.timing c.args.delay) is)) c.insert.ensures.inserted c.submit.ensures)
+    let n = next_call m.calls.items m.limit m.taken m.calls.made m.table m.sought c.args.moment (call.Submit c.args.task c.args.timing c.args.delay) f is in
+    let s = submits m.calls.items m.limit m.taken m.calls.made m.table m.sought c.args.moment c.args.task c.args.delay c.args.timing f is in
+    let slots = subst (λ k. c.admit-due.new.self ≡ admitted m.table c.args.task k c.args.moment c.args.timing c.args.delay) c.from.ensures c.admit-due.ensures.slots in
+    let steps = subst (λ k. CallSteps m.table c.admit-due.new.self (c.args.moment, call.Submit k c.args.timing c.args.delay) (bare (a.Submit k (kind_of c.args.timing) c.admit-due.result))) c.from.ensures c.admit-due.ensures.steps in
+    rw c.pass.ensures.passed (accepts m.calls.items m.limit m.taken m.calls.made m.table c.admit-due.new.self m.sought c.args.moment c.args.task c.args.delay c.admit-due.result c.args.timing f n s slots steps).core
 
-pub returns-then-self-clause-step : goal.returns-then-self-clause-step
-returns-then-self-clause-step g c =
+pub returns-then-is_shut-clause-step : goal.returns-then-is_shut-clause-step
+returns-then-is_shut-clause-step g c =
     let m = c.self.inside in
+    let f = c.self.invariant in
     let is : slice_get m.calls.items m.calls.made ≡ Some (c.args.moment, call.Submit c.args.task c.args.timing c.args.delay) = ap (λ x. slice_get x.calls x.made) c.self.view_is ∙ c.requires in
-    let view : CoreView = record { calls = m.calls.items; limit = m.limit; taken = m.taken; made = m.calls.made; moment = m.moment; tasks = m.tasks; work = m.work.items; policies = m.policies; shut = m.shut; stopped = m.stopped } in
-    rw c.pass-self-inside.ensures.passed (refuse_steps view c.args.self.now c.pass-self-inside.result c.args.moment c.args.task (call.Submit c.args.task c.args.timing c.args.delay) refusal.Rejected is
-    (shut_reply view c.args.moment c.args.task c.args.delay c.args.timing c.if-self.true) (called_at m.moment c.args.moment c.pass-self-inside.result (c.self.invariant.ahead (c.args.moment, call.Submit c.args.task c.args.timing c.args.delay) is) (c.pass-self-inside.ensures.moment (c.args.moment, call.Submit c.args.task c.args.timing c.args.delay) is)) c.self.view_is)
+    let n = next_call m.calls.items m.limit m.taken m.calls.made m.table m.sought c.args.moment (call.Submit c.args.task c.args.timing c.args.delay) f is in
+    let s = submits m.calls.items m.limit m.taken m.calls.made m.table m.sought c.args.moment c.args.task c.args.delay c.args.timing f is in
+    rw c.pass.ensures.passed (subst (λ (x : CoreView). Takes x (core_of m.calls.items m.limit m.taken (m.calls.made + 1) c.refuse.new.self) h.Call (a.Refuse c.args.task refusal.Rejected)) c.self.view_is (refuses m.calls.items m.limit m.taken m.calls.made m.table c.refuse.new.self m.sought c.args.moment c.args.task c.args.delay c.args.timing f n c.refuse.ensures.slots c.refuse.ensures.steps).takes)
 
 pub returns-clause-step : goal.returns-clause-step
 returns-clause-step g c =
     let m = c.self.inside in
+    let f = c.self.invariant in
     let is : slice_get m.calls.items m.calls.made ≡ Some (c.args.moment, call.Submit c.args.task c.args.timing c.args.delay) = ap (λ x. slice_get x.calls x.made) c.self.view_is ∙ c.requires in
-    rw c.pass-self-inside.ensures.passed (submit_steps_in _ c.args.self.now m.queue.entries m.kept.entries m.sought c.pass-self-inside.result c.args.moment c.args.task c.args.delay c.args.timing c.kind_of-kind.result c.submit.new.self
-    c.self.invariant is c.if-self.false c.kind_of-kind.ensures (called_at m.moment c.args.moment c.pass-self-inside.result (c.self.invariant.ahead (c.args.moment, call.Submit c.args.task c.args.timing c.args.delay) is) (c.pass-self-inside.ensures.moment (c.args.moment, call.Submit c.args.task c.args.timing c.args.delay) is)) c.self.view_is c.submit.ensures)
+    let n = next_call m.calls.items m.limit m.taken m.calls.made m.table m.sought c.args.moment (call.Submit c.args.task c.args.timing c.args.delay) f is in
+    let s = submits m.calls.items m.limit m.taken m.calls.made m.table m.sought c.args.moment c.args.task c.args.delay c.args.timing f is in
+    let slots = subst (λ k. c.admit-due.new.self ≡ admitted m.table c.args.task k c.args.moment c.args.timing c.args.delay) c.from.ensures c.admit-due.ensures.slots in
+    let steps = subst (λ k. CallSteps m.table c.admit-due.new.self (c.args.moment, call.Submit k c.args.timing c.args.delay) (bare (a.Submit k (kind_of c.args.timing) c.admit-due.result))) c.from.ensures c.admit-due.ensures.steps in
+    let takes : Takes (core_of m.calls.items m.limit m.taken m.calls.made m.table) (core_of m.calls.items m.limit m.taken (m.calls.made + 1) c.admit-due.new.self) h.Call (a.Submit c.args.task c.kind_of-kind.result c.admit-due.result) =
+    subst (λ k. Takes (core_of m.calls.items m.limit m.taken m.calls.made m.table) (core_of m.calls.items m.limit m.taken (m.calls.made + 1) c.admit-due.new.self) h.Call (a.Submit c.args.task k c.admit-due.result)) (sym c.kind_of-kind.ensures) (accepts m.calls.items m.limit m.taken m.calls.made m.table c.admit-due.new.self m.sought c.args.moment c.args.task c.args.delay c.admit-due.result c.args.timing f n s slots steps).takes
+    in
+    rw c.pass.ensures.passed (subst (λ (x : CoreView). Takes x (core_of m.calls.items m.limit m.taken (m.calls.made + 1) c.admit-due.new.self) h.Call (a.Submit c.args.task c.kind_of-kind.result c.admit-due.result)) c.self.view_is takes)
+
+pub returns-then-is_shut-clause-uncancelled : goal.returns-then-is_shut-clause-uncancelled
+returns-then-is_shut-clause-uncancelled g c =
+    let m = c.self.inside in
+    let f = c.self.invariant in
+    let is : slice_get m.calls.items m.calls.made ≡ Some (c.args.moment, call.Submit c.args.task c.args.timing c.args.delay) = ap (λ x. slice_get x.calls x.made) c.self.view_is ∙ c.requires in
+    let n = next_call m.calls.items m.limit m.taken m.calls.made m.table m.sought c.args.moment (call.Submit c.args.task c.args.timing c.args.delay) f is in
+    let s = submits m.calls.items m.limit m.taken m.calls.made m.table m.sought c.args.moment c.args.task c.args.delay c.args.timing f is in
+    subst (λ (x : CoreView). uncancelled_in (tasks_at c.refuse.new.self.slots) ≤ uncancelled_in x.tasks) c.self.view_is (refuses m.calls.items m.limit m.taken m.calls.made m.table c.refuse.new.self m.sought c.args.moment c.args.task c.args.delay c.args.timing f n c.refuse.ensures.slots c.refuse.ensures.steps).fewer
 
 pub returns-clause-uncancelled : goal.returns-clause-uncancelled
 returns-clause-uncancelled g c =
     let m = c.self.inside in
+    let f = c.self.invariant in
     let is : slice_get m.calls.items m.calls.made ≡ Some (c.args.moment, call.Submit c.args.task c.args.timing c.args.delay) = ap (λ x. slice_get x.calls x.made) c.self.view_is ∙ c.requires in
-    let sub = submission m.calls.items 0 0 m.calls.made c.args.moment c.args.task c.args.timing c.args.delay c.self.invariant.orderly.1 is in
-    let low : c.args.task < length m.tasks = omega (arith, sub.below, c.self.invariant.count) in
-    submit_fewer _ c.args.self.now c.args.task (c.args.moment + c.args.delay) c.args.timing c.submit.new.self low (c.self.invariant.fresh c.args.task (omega (arith, sub.number))) c.self.view_is c.submit.ensures
+    let n = next_call m.calls.items m.limit m.taken m.calls.made m.table m.sought c.args.moment (call.Submit c.args.task c.args.timing c.args.delay) f is in
+    let s = submits m.calls.items m.limit m.taken m.calls.made m.table m.sought c.args.moment c.args.task c.args.delay c.args.timing f is in
+    let slots = subst (λ k. c.admit-due.new.self ≡ admitted m.table c.args.task k c.args.moment c.args.timing c.args.delay) c.from.ensures c.admit-due.ensures.slots in
+    let steps = subst (λ k. CallSteps m.table c.admit-due.new.self (c.args.moment, call.Submit k c.args.timing c.args.delay) (bare (a.Submit k (kind_of c.args.timing) c.admit-due.result))) c.from.ensures c.admit-due.ensures.steps in
+    subst (λ (x : CoreView). uncancelled_in (tasks_at c.admit-due.new.self.slots) ≤ uncancelled_in x.tasks) c.self.view_is (accepts m.calls.items m.limit m.taken m.calls.made m.table c.admit-due.new.self m.sought c.args.moment c.args.task c.args.delay c.admit-due.result c.args.timing f n s slots steps).fewer

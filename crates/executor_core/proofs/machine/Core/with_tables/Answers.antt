@@ -1,17 +1,13 @@
-use Rattle.std.proofs.Common.{◌≡◌, None, false, refl, rules}
-use Rattle.std.specs.Prelude.{replicate}
+-- The table of a plan is empty, and nothing happened yet.
+use Rattle.std.proofs.Common.{false, refl}
 use Rattle.queue_code.specs.Codes.{calls_of}
-use Rattle.executor_core.proofs.Opens.{opening_is, opening_kept}
+use Rattle.executor_core.proofs.Opens.{opening_is, opening_core}
 use Rattle.executor_core.proofs.machine.Core.with_tables.Goals as goal
 
 pub invariant_of-result : goal.invariant_of-result
 invariant_of-result g c =
-    let some = c.requires in
-    let work : c.in_ok-work.work.items ≡ replicate c.args.workers None = c.in_ok-work.ensures.items_if_clones_equal (search rules) in
-    rw c.new-calls.ensures.start (opening_kept (calls_of c.args.code) c.tasks-count.result c.args.workers c.args.limit c.in_ok-tasks.tasks c.in_ok-work.work.items c.in_ok-queue.queue.entries c.in_ok-kept.kept.entries c.defaults.result false
-    c.new-calls.ensures.orderly c.tasks-count.ensures some.0 some.1 c.in_ok-tasks.ensures work (search rules) (search rules) c.defaults.ensures refl)
+    rw c.new.ensures.start (opening_core (calls_of c.args.code) c.args.limit c.tasks.result c.args.workers c.in_ok-table.table false c.new.ensures.orderly c.in_ok-table.ensures.workers c.requires.1 c.tasks.ensures c.in_ok-table.ensures.slots c.in_ok-table.ensures.stands refl)
 
 pub returns : goal.returns
 returns g c =
-    let work : c.in_ok-work.work.items ≡ replicate c.args.workers None = c.in_ok-work.ensures.items_if_clones_equal (search rules) in
-    rw c.new-calls.ensures.start (opening_is (calls_of c.args.code) c.tasks-count.result c.args.workers c.args.limit c.in_ok-tasks.tasks c.in_ok-work.work.items c.defaults.result c.in_ok-tasks.ensures work c.defaults.ensures)
+    rw c.new.ensures.start (opening_is (calls_of c.args.code) c.args.limit c.tasks.result c.args.workers c.in_ok-table.table c.new.ensures.orderly c.in_ok-table.ensures.slots c.in_ok-table.ensures.workers c.in_ok-table.ensures.stands)

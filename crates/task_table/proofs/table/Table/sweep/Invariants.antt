@@ -1,6 +1,7 @@
 -- The slots before this one are swept, and the tasks in them that are ended are found.
 use Rattle.std.proofs.Common.{◌≡◌, take, vec_capacity}
-use Rattle.task_table.specs.own.Found.{found, ends_task, partly}
+use Rattle.task_table.specs.Ends.{ends_task}
+use Rattle.task_table.specs.own.Found.{found, partly}
 use Rattle.task_table.proofs.table.Table.sweep.Given as goal
 
 abbrev pub invariant-loop-slot : goal.invariant-loop-slot

@@ -1,0 +1,4 @@
+pub mod Pairs
+pub mod Counting
+pub mod Numbered
+pub mod Entries
