@@ -1,29 +1,13 @@
 -- A core that answers an event by an error: nothing changes but the number of events taken.
-use Rattle.std.proofs.Common.{suc, ◌≡◌, ℕ, ◌+◌, List, [], ◌∷◌, ◌++◌, length, None, refl, sym, ap, ◌∙◌, arith}
+use Rattle.std.proofs.Common.{suc, ◌≡◌, ℕ, ◌+◌, List, [], ◌∷◌, ◌++◌, length, None, refl, ap, ◌∙◌, arith}
 use Rattle.std.specs.Prelude.{slice_index_or, replicate}
 use Rattle.executor_model.specs.declared.types.Event.{Event}
-use Rattle.executor_model.specs.declared.types.EventError.{EventError}
-use Rattle.executor_model.specs.declared.types.Happening.{Happening}
 use Rattle.executor_model.specs.declared.types.Happening.TheVariants as h
 use Rattle.executor_model.specs.declared.types.Line.{Line}
-use Rattle.executor_model.specs.declared.types.Answer.TheVariants as a
-use Rattle.executor_core.specs.own.OwnSteps.{Takes}
-use Rattle.executor_model.specs.Answers.{Reply, bare}
-use Rattle.executor_model.specs.State.{State, vacant, reply_of, after_from}
+use Rattle.executor_model.specs.State.{State, vacant, after_from}
 use Rattle.executor_model.specs.Flows.{happening_of, part_of, lines_at, lines_from}
 use Rattle.executor_core.specs.CoreView.{CoreView, workers_of, state_of, Steps, ErrorOnlyCounts}
 use Rattle.executor_model.proofs.Errors.{errors_change_nothing, none_before, no_ends}
-
--- a core that answers by an error takes the step of what it answered
-pub error_takes : (m : CoreView) (happening : Happening) (error : EventError) → reply_of m.calls (workers_of m) (state_of m) happening ≡ bare (a.Error error) → Takes m m happening (a.Error error)
-error_takes m happening error said = record {
-  calls = refl;
-  limit = refl;
-  taken = refl;
-  workers = refl;
-  state = sym (errors_change_nothing m.calls (workers_of m) (state_of m) happening error (ap (λ (r : Reply). r.answer) said));
-  said = said;
-}
 
 -- tables of one length with the same items are one
 same_table : {X : Type 0} (d : X) (xs ys : List X) → length xs ≡ length ys → ((k : ℕ) → slice_index_or xs k d ≡ slice_index_or ys k d) → xs ≡ ys

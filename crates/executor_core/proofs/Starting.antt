@@ -17,7 +17,7 @@ use Rattle.task_table.specs.Seats.{task_in, slot_of}
 use Rattle.task_table.specs.Tables.{TableView, StandsBefore, Takes as TableTakes}
 use Rattle.task_table.specs.Firsts.{IsFirstDue, FirstIs}
 use Rattle.task_table.specs.Changes.{begun, started}
-use Rattle.task_table.specs.Runs.{IsFree, Begins, Idles, MayRun, IsFull}
+use Rattle.task_table.specs.Runs.{IsFree, Begins, Idles, MayRun}
 use Rattle.task_table.proofs.Knowing.{known}
 use Rattle.task_table.proofs.Firsts.{start_gets, start_said}
 use Rattle.task_table.proofs.Starts.{stands_before}
@@ -124,7 +124,3 @@ idles calls limit taken count t mid u sought w f unkept before did =
 -- the run of the first task that is due may be under way
 pub may_run : (taken : ℕ) (m : TableView) → taken < 2 ^ 32 → ((i : ℕ) (x : Seat) → IsFirstDue m i x → x.run < taken) → MayRun (λ run. nat_lt (run + 1) (2 ^ 32)) m
 may_run taken m few below i x first room = lt-ltb (x.run + 1) (2 ^ 32) (omega (arith, few, below i x first))
-
--- it has not had so many runs that no number is left
-pub not_full : (taken : ℕ) (m : TableView) → taken < 2 ^ 32 → ((i : ℕ) (x : Seat) → IsFirstDue m i x → x.run < taken) → IsFull m → ⊥
-not_full taken m few below full = omega (arith, few, full.last, below full.slot full.task full.first)

@@ -41,13 +41,6 @@ same_moved t u now n (a.Submit j kind due) task by_it = ap (λ b. cond b (submit
 same_moved t u now n (a.Finish w j run outcome) task by_it = ap (λ b. cond b (finish_task t now outcome task) task) by_it.finish ∙ sym (ap (λ b. cond b (finish_task u now outcome task) task) by_it.finish)
 same_moved t u now n answer task by_it = refl
 
--- a task of which an answer is not keeps its phase
-same_phase : (t : Timing) (now n : ℕ) (answer : Answer) (task : Task) → Passes n answer → (move_task t now n answer task).phase ≡ task.phase
-same_phase t now n (a.Submit j kind due) task by_it = ap (λ b. (cond b (submit_phase t due task.phase task) task).phase) by_it.submit
-same_phase t now n (a.Start w j run due) task by_it = ap (λ b. (cond b (record task { phase = ph.Running }) task).phase) by_it.start
-same_phase t now n (a.Finish w j run outcome) task by_it = ap (λ b. (cond b (finish_task t now outcome task) task).phase) by_it.finish
-same_phase t now n answer task by_it = refl
-
 same_meets : (calls : List Planned) (p : Planned) (s : State) (due k : ℕ) (answer : Answer) → IsNext calls p → Passes (task_count calls) answer → meets (view_of_state (calls ++ p ∷ []) s) due k answer ≡ meets (view_of_state calls s) due k answer
 same_meets calls p s due k (a.Start w task run at) is by_it = ap (λ (fate : Fate). nat_le due s.moment && comes_before due k fate.due task) (same_fate calls p s task is by_it.start)
 same_meets calls p s due k answer is by_it = refl

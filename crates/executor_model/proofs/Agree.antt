@@ -16,16 +16,15 @@ use Rattle.executor_model.specs.declared.types.Outcome.{Outcome}
 use Rattle.executor_model.specs.declared.types.Outcome.TheVariants as o
 use Rattle.executor_model.specs.declared.types.Answer.{Answer}
 use Rattle.executor_model.specs.declared.types.Answer.TheVariants as a
-use Rattle.executor_model.specs.declared.task.Stage.{Stage}
 use Rattle.executor_model.specs.declared.task.Stage.TheVariants as ph
 use Rattle.executor_model.specs.declared.task.Task.{Task}
 use Rattle.queue_code.specs.Calls.{submits_task, Planned, terms_of, due_at, numbers, task_count}
 use Rattle.executor_model.specs.View.{first_enabled}
 use Rattle.executor_model.specs.Answers.{reply, bare, called, kind_of, start_answer, finish_answer, effect_on}
 use Rattle.executor_model.specs.Histories.{HistoryEntry, entry_of, happenings, IsHistoryOf, view_of_history, answer, cancels}
-use Rattle.executor_model.specs.State.{State, view_of_state, next, after, opening, reply_of, move_task, submit_phase, finish_task}
-use Rattle.executor_model.specs.own.Soundness.{IsSound, IsDue, TimingsAgree, NoneDelayed}
-use Rattle.executor_model.proofs.Views.{seen_moves, look_moves, view_after, due_next_state}
+use Rattle.executor_model.specs.State.{State, view_of_state, next, after, opening, reply_of, move_task, finish_task}
+use Rattle.executor_model.specs.own.Soundness.{IsSound, TimingsAgree, NoneDelayed}
+use Rattle.executor_model.proofs.Views.{seen_moves, look_moves, view_after}
 use Rattle.executor_model.proofs.Sound.{Finds, IsPeriodicAgain, reply_finds, fits_all}
 use Rattle.executor_model.proofs.SoundSteps.{sound_stays, later}
 use Rattle.executor_model.proofs.Replies.{IsAnswerTo, accepts_by, by_answer}
@@ -41,15 +40,6 @@ opening_sound = record { at_work = λ w k q. absurd (none-some k q); apart = λ 
 
 opening_agrees : (calls : List Planned) → Agrees calls opening []
 opening_agrees calls = record { view = refl; sound = opening_sound }
-
--- each step leads from a sound state to a sound one
-pub next_sound : (calls : List Planned) (workers : ℕ) (s : State) (happening : Happening) → IsSound s → IsSound (next calls workers s happening)
-next_sound calls workers s happening sound = sound_stays calls s happening (reply_of calls workers s happening) sound (reply_finds calls workers s happening sound)
-
--- the due moments of a state that a step leads to are those of the terms
-pub next_due_is : (calls : List Planned) (workers : ℕ) (s : State) (happening : Happening) → IsSound s → IsDue calls (view_of_state calls s) → IsDue calls (view_of_state calls (next calls workers s happening))
-next_due_is calls workers s happening sound due =
-    let r = reply_of calls workers s happening in due_next_state calls s happening r (fits_all calls s r.answer sound (reply_finds calls workers s happening sound)) due
 
 -- a state that agrees answers as the equations do
 pub answers_alike : (calls : List Planned) (workers : ℕ) (s : State) (past : List HistoryEntry) (happening : Happening) → Agrees calls s past →
@@ -88,36 +78,6 @@ finish_timing timing now (o.Failed code) task = refl
 finish_timing timing now o.Dropped task = refl
 finish_timing timing now o.Ended task = refl
 finish_timing timing now (o.Again due) task = refl
-
--- each task that was submitted has the timing of its terms, also after an answer
-pub timing_after : (calls : List Planned) (s : State) (answer : Answer) → IsSound s → Finds calls s answer → TimingsAgree calls s → (k : ℕ) → (task_by calls s answer k).phase ≢ ph.Vacant → (task_by calls s answer k).timing ≡ (terms_of calls k).timing
-timing_after calls s (a.Submit j kind due) sound f agree k = by (j == k)
-  where
-    from : (p : Stage) (task : Task) → (task.phase ≢ ph.Vacant → task.timing ≡ (terms_of calls k).timing) → task.phase ≡ p → (submit_phase (terms_of calls k).timing due p task).timing ≡ (terms_of calls k).timing
-    from ph.Vacant task old is = refl
-    from ph.Waiting task old is = old (λ q. let clash : ph.Waiting ≡ ph.Vacant = sym is ∙ q in cc)
-    from ph.Running task old is = old (λ q. let clash : ph.Running ≡ ph.Vacant = sym is ∙ q in cc)
-    from ph.Done task old is = old (λ q. let clash : ph.Done ≡ ph.Vacant = sym is ∙ q in cc)
-    from ph.Failed task old is = old (λ q. let clash : ph.Failed ≡ ph.Vacant = sym is ∙ q in cc)
-    from ph.Dropped task old is = old (λ q. let clash : ph.Dropped ≡ ph.Vacant = sym is ∙ q in cc)
-
-    by : (b : Bool) → (cond b (submit_phase (terms_of calls k).timing due (s.tasks k).phase (s.tasks k)) (s.tasks k)).phase ≢ ph.Vacant →
-        (cond b (submit_phase (terms_of calls k).timing due (s.tasks k).phase (s.tasks k)) (s.tasks k)).timing ≡ (terms_of calls k).timing
-    by true used = from (s.tasks k).phase (s.tasks k) (agree k) refl
-    by false used = agree k used
-timing_after calls s (a.Start w j n due) sound f agree k = by (j == k) refl
-  where
-    by : (b : Bool) → (j == k) ≡ b → (cond b (record (s.tasks k) { phase = ph.Running }) (s.tasks k)).phase ≢ ph.Vacant → (cond b (record (s.tasks k) { phase = ph.Running }) (s.tasks k)).timing ≡ (terms_of calls k).timing
-    by true same used = agree k (λ q. let clash : ph.Waiting ≡ ph.Vacant = sym (subst (λ i. (s.tasks i).phase ≡ ph.Waiting) (eqb-true j k same) f.1) ∙ q in cc)
-    by false same used = agree k used
-timing_after calls s (a.Finish w j n outcome) sound f agree k = by (j == k) refl
-  where
-    by : (b : Bool) → (j == k) ≡ b → (cond b (finish_task (terms_of calls k).timing s.moment outcome (s.tasks k)) (s.tasks k)).phase ≢ ph.Vacant →
-        (cond b (finish_task (terms_of calls k).timing s.moment outcome (s.tasks k)) (s.tasks k)).timing ≡ (terms_of calls k).timing
-    by true same used = finish_timing (terms_of calls k).timing s.moment outcome (s.tasks k)
-        ∙ agree k (λ q. let clash : ph.Running ≡ ph.Vacant = sym (subst (λ i. (s.tasks i).phase ≡ ph.Running) (eqb-true j k same) (sound.at_work w j f.0)) ∙ q in cc)
-    by false same used = agree k used
-timing_after calls s _ sound f agree k = agree k
 
 no_or : (p q : Bool) → (p || q) ≡ false → q ≡ false
 no_or true q e = absurd (false≢true (sym e))

@@ -25,10 +25,6 @@ pub and_none : (b : Bool) → (b && false) ≡ false
 and_none true = refl
 and_none false = refl
 
-pub and_true : (b : Bool) → (b && true) ≡ b
-and_true true = refl
-and_true false = refl
-
 -- a number is one of a filtered list where it is one of the list and passes the test
 end_filter : (test : ℕ → Bool) (ks : List ℕ) (k : ℕ) → is_end k (filter test ks) ≡ (is_end k ks && test k)
 end_filter test [] k = refl
@@ -86,23 +82,10 @@ pub and_left : (b c : Bool) → (b && c) ≡ true → b ≡ true
 and_left true c q = refl
 and_left false c q = q
 
--- the other one too
-pub and_right : (b c : Bool) → (b && c) ≡ true → c ≡ true
-and_right true c q = q
-and_right false c q = absurd (false≢true q)
-
-not_so : (b : Bool) → not b ≡ true → b ≡ false
-not_so true q = absurd (false≢true q)
-not_so false q = refl
-
 -- what is not false is true
 pub not_false : (b : Bool) → not b ≡ false → b ≡ true
 not_false true q = refl
 not_false false q = sym q
-
--- a task that waits for a run is not cancelled
-pub waits_uncancelled : (t : Task) → waits_with t ≡ true → t.cancelled ≡ false
-waits_uncancelled t waits = not_so t.cancelled (and_right _ (not t.cancelled) waits)
 
 -- a plan has few tasks
 tasks_within : (calls : List Planned) → task_count calls ≤ length calls

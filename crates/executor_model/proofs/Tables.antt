@@ -1,5 +1,5 @@
 -- Tables of tasks and workers as lists, and the numbers of submissions.
-use Rattle.std.proofs.Common.{◌≡◌, ◌≢◌, ℕ, ◌+◌, ◌^◌, ◌<◌, ◌≤◌, ◌==◌, zero, suc, Bool, true, false, cond, List, [], ◌∷◌, length, map, take, Option, Some, None, refl, sym, ap, ◌∙◌, arith, subst}
+use Rattle.std.proofs.Common.{◌≡◌, ◌≢◌, ℕ, ◌+◌, ◌^◌, ◌<◌, ◌≤◌, ◌==◌, zero, suc, Bool, true, false, cond, List, [], ◌∷◌, length, take, Option, Some, None, refl, sym, ap, ◌∙◌, arith, subst}
 use Rattle.std.specs.Prelude.{slice_get, slice_index_or, replicate, is_some, not}
 use Rattle.std.proofs.Math.ListN.{set}
 use Rattle.std.proofs.lemmas.Bool.{false≢true, eqb-true, eqb-false, eq-eqb, false_from_ne_true}
@@ -8,12 +8,9 @@ use Rattle.std.proofs.lemmas.List.{get_or-set_same, get_or-set_other}
 use Rattle.queue_code.specs.declared.call.CodeCall.{CodeCall}
 use Rattle.queue_code.specs.declared.call.CodeCall.TheVariants as c
 use Rattle.sched_time.specs.declared.timing.Timing.{Timing}
-use Rattle.executor_model.specs.declared.task.Stage.TheVariants as ph
 use Rattle.executor_model.specs.declared.task.Task.{Task}
 use Rattle.executor_model.specs.State.{vacant}
 use Rattle.executor_model.specs.Tasks.{uncancelled_in}
-use Rattle.executor_model.specs.own.Soundness.{RunsBelow}
-use Rattle.executor_model.specs.own.Phases.{queued, held}
 use Rattle.queue_code.specs.Calls.{Planned, IsOrderlyFrom, IsOrderlyCall, count_after, submits_task, task_count, terms_of}
 
 -- a table after a write
@@ -120,56 +117,10 @@ count_grows (p ∷ calls) (suc n) =
     in
     pick (submits_task p.1)
 
--- the entry of a task in the queue of some tasks
-pub queued_at : (tasks : List Task) (k : ℕ) → slice_index_or (map queued tasks) k None ≡ queued (slice_index_or tasks k vacant)
-queued_at [] k = refl
-queued_at (t ∷ tasks) zero = refl
-queued_at (t ∷ tasks) (suc k) = queued_at tasks k
-
--- the entry of a task among the kept ones
-pub held_at : (tasks : List Task) (k : ℕ) → slice_index_or (map held tasks) k None ≡ held (slice_index_or tasks k vacant)
-held_at [] k = refl
-held_at (t ∷ tasks) zero = refl
-held_at (t ∷ tasks) (suc k) = held_at tasks k
-
--- what indexing reads
-pub read_at : {X : Type 0} (xs : List X) (i : ℕ) (x d : X) → i < length xs → x ≡ slice_index_or xs i x → x ≡ slice_index_or xs i d
-read_at [] i x d l q = absurd (omega arith)
-read_at (y ∷ xs) zero x d l q = q
-read_at (y ∷ xs) (suc i) x d l q = read_at xs i x d (omega arith) q
-
 -- an option without a value is none
 pub none_of : {X : Type 0} (o : Option X) → false ≡ is_some o → o ≡ None
 none_of None q = refl
 none_of (Some x) q = absurd (false≢true q)
-
--- the numbers of runs, where a task is written
-pub runs_set : (count : ℕ) (tasks : List Task) (k : ℕ) (task : Task) → k < length tasks → RunsBelow count tasks → task.run ≤ count → (task.phase ≡ ph.Running → task.run < count) → RunsBelow count (set tasks k task)
-runs_set count tasks k task low runs within begun = record {
-  all = λ j. subst (λ (x : Task). x.run ≤ count) (sym (at_set tasks k j task vacant low)) (all (k == j) j);
-  begun = λ j q. subst (λ (x : Task). x.run < count) (sym (at_set tasks k j task vacant low)) (busy (k == j) j (subst (λ (x : Task). x.phase ≡ ph.Running) (at_set tasks k j task vacant low) q));
-}
-  where
-    all : (b : Bool) (j : ℕ) → (cond b task (slice_index_or tasks j vacant)).run ≤ count
-    all true j = within
-    all false j = runs.all j
-
-    busy : (b : Bool) (j : ℕ) → (cond b task (slice_index_or tasks j vacant)).phase ≡ ph.Running → (cond b task (slice_index_or tasks j vacant)).run < count
-    busy true j q = begun q
-    busy false j q = runs.begun j q
-
--- one event more
-pub runs_counted : (count : ℕ) (tasks : List Task) → RunsBelow count tasks → RunsBelow (count + 1) tasks
-runs_counted count tasks runs = record { all = λ k. omega (arith, runs.all k); begun = λ k q. omega (arith, runs.all k) }
-
--- what stays vacant where a task that was submitted is written
-pub vacant_stays : (tasks : List Task) (k bound : ℕ) (task : Task) → k < length tasks → (slice_index_or tasks k vacant).phase ≢ ph.Vacant → ((j : ℕ) → bound ≤ j → slice_index_or tasks j vacant ≡ vacant) →
-    (j : ℕ) → bound ≤ j → slice_index_or (set tasks k task) j vacant ≡ vacant
-vacant_stays tasks k bound task low used fresh j above = at_set tasks k j task vacant low ∙ by (k == j) refl
-  where
-    by : (b : Bool) → (k == j) ≡ b → cond b task (slice_index_or tasks j vacant) ≡ vacant
-    by true same = absurd (used (ap (λ (x : Task). x.phase) (ap (λ i. slice_index_or tasks i vacant) (eqb-true k j same) ∙ fresh j above)))
-    by false apart = fresh j above
 
 -- no more tasks are not cancelled, where one is written that is cancelled or stands for one that was not
 pub uncancelled_set : (tasks : List Task) (k : ℕ) (task : Task) → k < length tasks → (task.cancelled ≡ false → (slice_index_or tasks k vacant).cancelled ≡ false) → uncancelled_in (set tasks k task) ≤ uncancelled_in tasks

@@ -1,5 +1,5 @@
 -- One step of a history and one step of a state move the view alike.
-use Rattle.std.proofs.Common.{◌≡◌, ℕ, ◌+◌, ◌*◌, ◌||◌, Bool, true, false, cond, List, ◌∷◌, Option, Some, refl, arith, ap, sym, ◌∙◌, subst}
+use Rattle.std.proofs.Common.{◌≡◌, ℕ, ◌+◌, ◌*◌, ◌||◌, Bool, true, false, cond, List, ◌∷◌, Option, Some, refl, arith}
 use Rattle.std.specs.Prelude.{if◌then◌else◌, slice_get}
 use Rattle.sched_time.specs.declared.timing.Timing.{Timing}
 use Rattle.sched_time.specs.declared.timing.Timing.TheVariants as t
@@ -76,20 +76,6 @@ pub seen_moves : (calls : List Planned) (s : State) (happening : Happening) (r :
 seen_moves calls s happening r fits = λ i.
     view_with calls (view_of_state calls s) happening r (λ k. task_moves (terms_of calls k) s.moment k (s.tasks k) r.answer (cancels k r.answer r.ends) (kept_after (view_of_state calls s) k r.answer) (fits k) i)
 
--- the due moments that are seen stay those of the terms
-pub due_stays : (calls : List Planned) (v : View) (happening : Happening) (r : Reply) → IsDue calls v → IsDue calls (view_after calls v happening r)
-due_stays calls v happening r due k =
-    let terms = terms_of calls k in
-    let before = due k in
-    let b = is_start k r.answer in
-    let c = is_finish k r.answer in
-    (cond c (Some v.moment) before.0, ap (λ d. due_after terms.timing d v.moment b c) before.1 ∙ due_moves terms (v.fate k).starts v.moment before.0 b c)
-
 -- the due moments that a history shows are those of the terms
 pub look_is_due : (calls : List Planned) (past : List HistoryEntry) → IsDue calls (view_of_history calls past)
 look_is_due calls past = λ k. (last_finish calls k past, refl)
-
--- a state from which the due moments are those of the terms goes to one like it
-pub due_next_state : (calls : List Planned) (s : State) (happening : Happening) (r : Reply) → ((k : ℕ) → Fits (terms_of calls k) s.moment k (s.tasks k) r.answer) →
-    IsDue calls (view_of_state calls s) → IsDue calls (view_of_state calls (state_after calls s happening r))
-due_next_state calls s happening r fits due = subst (IsDue calls) (sym (seen_moves calls s happening r fits)) (due_stays calls (view_of_state calls s) happening r due)

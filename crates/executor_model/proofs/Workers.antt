@@ -1,6 +1,5 @@
 -- What a start without work, and a finish, are answered.
-use Rattle.std.proofs.Common.{◌≡◌, ℕ, ◌+◌, ◌-◌, ◌<◌, cond, List, Option, Some, None, refl, sym, ap, ◌∙◌, arith}
-use Rattle.std.specs.Option.{option_map_or}
+use Rattle.std.proofs.Common.{◌≡◌, ℕ, ◌+◌, ◌-◌, ◌<◌, cond, List, Option, Some, refl, sym, ap, ◌∙◌, arith}
 use Rattle.std.proofs.lemmas.Bool.{lt-ltb}
 use Rattle.sched_time.specs.declared.timing.Timing.{Timing}
 use Rattle.sched_time.specs.declared.timing.Timing.TheVariants as t
@@ -9,28 +8,12 @@ use Rattle.executor_model.specs.declared.types.Happening.TheVariants as h
 use Rattle.executor_model.specs.declared.types.Outcome.{Outcome}
 use Rattle.executor_model.specs.declared.types.Answer.TheVariants as a
 use Rattle.executor_model.specs.declared.task.Stage.TheVariants as ph
-use Rattle.executor_model.specs.declared.task.Task.{Task}
 use Rattle.sched_time.specs.declared.timing.Ending.{Ending}
-use Rattle.queue_code.specs.Calls.{Planned, Terms, terms_of, due_at, numbers}
-use Rattle.executor_model.specs.View.{first_enabled}
-use Rattle.executor_model.specs.Answers.{bare, start_answer, finish_answer, outcome_in, due_next, stops_periodic}
+use Rattle.queue_code.specs.Calls.{Planned, terms_of, due_at}
+use Rattle.executor_model.specs.Answers.{bare, finish_answer, outcome_in, due_next, stops_periodic}
 use Rattle.executor_model.specs.State.{State, view_of_state, seen_phase, due_seen, due_ahead, due_past, next, reply_of}
 use Rattle.executor_model.specs.own.Soundness.{IsDue}
 use Rattle.executor_model.proofs.Moves.{due_landed, past_is_landed}
-
--- the due moment that is seen of a waiting task
-pub seen_due : (terms : Terms) (t : Task) → t.phase ≡ ph.Waiting → due_seen terms t.phase t.due ≡ t.due
-seen_due terms t q = ap (λ p. due_seen terms p t.due) q
-
-pub start_reply : (calls : List Planned) (workers w : ℕ) (s : State) (work first : Option ℕ) → w < workers → s.workers w ≡ work → first_enabled (view_of_state calls s) (numbers calls) ≡ first →
-    reply_of calls workers s (h.Start w) ≡ bare (option_map_or (λ _. a.Error x.Busy) work (start_answer (view_of_state calls s) w first))
-start_reply calls workers w s work first l e f =
-    ap (λ b. bare (cond b (option_map_or (λ _. a.Error x.Busy) (s.workers w) (start_answer (view_of_state calls s) w (first_enabled (view_of_state calls s) (numbers calls)))) (a.Error x.NoWorker))) (lt-ltb w workers l)
-    ∙ (λ i. bare (option_map_or (λ _. a.Error x.Busy) (e i) (start_answer (view_of_state calls s) w (f i))))
-
--- the reply to a start where no task is enabled
-pub idle_starts : (calls : List Planned) (workers w : ℕ) (s : State) → w < workers → s.workers w ≡ None → first_enabled (view_of_state calls s) (numbers calls) ≡ None → reply_of calls workers s (h.Start w) ≡ bare (a.Idle w)
-idle_starts calls workers w s l e f = start_reply calls workers w s None None l e f
 
 finish_reply : (calls : List Planned) (workers w : ℕ) (ending : Ending) (s : State) (work : Option ℕ) → w < workers → s.workers w ≡ work →
     reply_of calls workers s (h.Finish w ending) ≡ bare (finish_answer calls (view_of_state calls s) w ending work)

@@ -1,5 +1,4 @@
 -- What no public clause of this crate, or of those above it, leads to: means of their own contracts and proofs.
-pub mod Histories
 pub mod Kept
 pub mod Phases
 pub mod Said

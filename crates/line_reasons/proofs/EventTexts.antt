@@ -1,10 +1,10 @@
 -- Texts of which the lines of some events were read.
-use Rattle.std.proofs.Common.{◌≡◌, ◌==◌, false, ℕ, ◌+◌, ◌<◌, ◌≤◌, List, [], ◌∷◌, ◌++◌, length, refl, sym, ap, ◌∙◌, arith, append_assoc, append-nil, length-append}
+use Rattle.std.proofs.Common.{◌≡◌, ◌==◌, false, ℕ, ◌+◌, ◌<◌, ◌≤◌, List, [], ◌∷◌, ◌++◌, length, sym, ap, ◌∙◌, arith, append_assoc, append-nil, length-append}
 use Rattle.std.specs.Prelude.{All}
 use Rattle.std.specs.List.{AllByRecursion}
 use Rattle.std.proofs.lemmas.Bool.{false≢true}
 use Rattle.std.proofs.lemmas.Grind.{flat_map-append}
-use Rattle.std.proofs.lemmas.List.Elements.{All-nil, All-push, recursion_from_All}
+use Rattle.std.proofs.lemmas.List.Elements.{All-push, recursion_from_All}
 use Rattle.executor_model.specs.declared.Event.{Event}
 use Rattle.trace_text.specs.Reading.{IsUnread}
 use Rattle.trace_text.specs.Spelling.{event_line, FitsEvent}
@@ -17,10 +17,6 @@ pub record IsLeft (text rest : List ℕ) (number : ℕ) : Type 0 where
   pub fit : All FitsEvent events
   pub spelled : text ≡ events_text events ++ rest
   pub counted : number ≡ length events + 1
-
--- before a line is read all is left
-pub all_left : (text : List ℕ) → IsLeft text text 1
-all_left text = record { events = []; fit = All-nil FitsEvent; spelled = refl; counted = refl }
 
 -- an event's line has a byte at least
 pub event_some : (e : Event) → FitsEvent e → 1 ≤ length (event_line e)
@@ -42,10 +38,6 @@ one_read text rest behind number e left fits is = record {
   spelled = left.spelled ∙ (ap (λ l. events_text left.events ++ l) is ∙ (sym (append_assoc (events_text left.events) (event_line e) behind) ∙ ap (λ l. l ++ behind) (sym (text_more left.events e))));
   counted = omega (arith, left.counted, length-append left.events (e ∷ []));
 }
-
--- where nothing is left, the text is that of the events
-pub none_left : (text rest : List ℕ) (number : ℕ) → IsLeft text rest number → rest ≡ [] → AreEvents text
-none_left text rest number left none = (left.events, left.fit, left.spelled ∙ (ap (λ l. events_text left.events ++ l) none ∙ append-nil (events_text left.events)))
 
 -- where some bytes are left
 pub some_left : (rest : List ℕ) → (length rest == 0) ≡ false → 0 < length rest

@@ -46,9 +46,6 @@ set_case (p ∷ slots) (suc slot) (suc i) o x is = elim (set_case slots slot i o
   | inr other ↦ inr ((λ e. other.0 (omega (arith, e))), other.1)
 ]
 
-pub alive_none : AreAlive []
-alive_none i x is = absurd (none-some x is)
-
 pub alive_put : (slots : List (Option Seat)) (slot : ℕ) (y : Seat) → is_alive (task_in y) ≡ true → AreAlive slots → AreAlive (slice_set slots slot (Some y))
 alive_put slots slot y live alive i x is = elim (set_case slots slot i (Some y) x is) [
   | inl here ↦ subst (λ (z : Seat). is_alive (task_in z) ≡ true) (same_Some y x here.1) live

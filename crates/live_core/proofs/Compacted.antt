@@ -1,5 +1,5 @@
 -- An index as its stale entries are dropped, entry by entry.
-use Rattle.std.proofs.Common.{◌≡◌, ℕ, ◌+◌, ◌<◌, ◌≤◌, Bool, true, false, cond, List, [], ◌∷◌, ◌++◌, length, get_or, take, drop, set, refl, sym, ap, ◌∙◌, arith}
+use Rattle.std.proofs.Common.{◌≡◌, ℕ, ◌+◌, ◌<◌, ◌≤◌, Bool, true, false, cond, List, [], ◌∷◌, ◌++◌, length, get_or, take, drop, set, sym, ap, ◌∙◌, arith}
 use Rattle.std.specs.List.{filter}
 use Rattle.std.proofs.lemmas.List.{take_more, take_more_set, take_all, drop_more, drop-set-lt, append-nil}
 use Rattle.std.proofs.lemmas.List.Elements.{filter-append}
@@ -13,9 +13,6 @@ pub record Compacts (test : TaskRef → Bool) (old now : List TaskRef) (kept i :
   pub long : length now ≡ length old
   pub front : take kept now ≡ filter test (take i old)
   pub back : drop i now ≡ drop i old
-
-pub compacts_none : (test : TaskRef → Bool) (old : List TaskRef) → Compacts test old old 0 0
-compacts_none test old = record { within = omega arith; long = refl; front = refl; back = refl }
 
 -- the entry at place i is the one that was there
 read : (old now : List TaskRef) (i : ℕ) (x : TaskRef) → i < length now → length now ≡ length old → drop i now ≡ drop i old → x ≡ get_or now i x → get_or old i x ≡ x

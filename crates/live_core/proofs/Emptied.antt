@@ -140,12 +140,3 @@ released held free slot number is empty =
 -- then there are fewer empty ones than slots
 pub has_room : (held : List (Option ℕ)) (free : List ℕ) (slot number : ℕ) → number_in held slot ≡ Some number → AreEmpty held free → length free < length held
 has_room held free slot number is empty = omega (arith, empty.count, count_emptied held slot number is)
-
--- there are no slots
-pub empty_none : AreEmpty [] []
-empty_none = record {
-  within = λ i q. absurd (false≢true q);
-  empty = λ i q. refl;
-  once = tt;
-  count = refl;
-}

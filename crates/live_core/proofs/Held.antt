@@ -21,9 +21,6 @@ number_at (o ∷ slots) (suc i) = number_at slots i
 pub number_there : (slots : List (Option Seat)) (i : ℕ) (x : Seat) → slot_of slots i ≡ Some x → number_in (held_numbers slots) i ≡ Some x.number
 number_there slots i x is = number_at slots i ∙ ap number_of is
 
-pub number_none : (slots : List (Option Seat)) (i : ℕ) → slot_of slots i ≡ None → number_in (held_numbers slots) i ≡ None
-number_none slots i is = number_at slots i ∙ ap number_of is
-
 -- a slot whose number is none is empty
 pub none_there : (slots : List (Option Seat)) (i : ℕ) → number_in (held_numbers slots) i ≡ None → slot_of slots i ≡ None
 none_there slots i is = by (slot_of slots i) (sym (number_at slots i) ∙ is)

@@ -110,11 +110,3 @@ one_slot held entries count i j number index p q =
     let at_i = index.each i number p in
     let at_j = index.each j number q in
     ap (λ (y : TaskRef). y.slot) (one_entry held entries count at_i.0 at_j.0 (record { number = number; slot = i }) (record { number = number; slot = j }) index at_i.1 at_j.1 refl)
-
--- there are no slots
-pub indexed_none : IsIndex [] [] 0
-indexed_none = record {
-  ascending = λ i j x z l p q. absurd (none-some x p);
-  below = λ i x p. absurd (none-some x p);
-  each = λ slot number is. absurd (none-some number is);
-}

@@ -22,4 +22,3 @@ pub mod Few
 pub mod Waiting
 pub mod Limited
 pub mod Leaving
-pub mod Found

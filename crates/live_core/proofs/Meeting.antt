@@ -3,8 +3,7 @@ use Rattle.std.proofs.Common.{◌≡◌, ℕ, ◌+◌, ◌≤◌, ◌||◌, Bool
 use Rattle.std.specs.Prelude.{slice_get, nat_lt}
 use Rattle.std.specs.Option.{option_map_or}
 use Rattle.std.proofs.lemmas.Bool.{false≢true}
-use Rattle.std.proofs.lemmas.Bool.Decides.{nat_tests}
-use Rattle.std.proofs.lemmas.List.Elements.{All-nil, All-cons}
+use Rattle.std.proofs.lemmas.List.Elements.{All-cons}
 use Rattle.std.proofs.lemmas.Option.{slice_get_within}
 use Rattle.queue_code.specs.Calls.{Planned}
 use Rattle.executor_model.specs.declared.types.Happening.{Happening}
@@ -119,24 +118,6 @@ meets_there old new calls past y r event passes st takes =
 -- the same, whatever calls and history led there
 pub meets : (old new : LiveView) (y : Happening) (r : Reply) → is_call y ≡ false → Passes old new y r → EventSteps old.table new.table y r → Happens old new y r
 meets old new y r event passes steps calls past st = meets_there old new calls past y r event passes st (steps calls past st.table)
-
--- ---- before anything happened
-
--- a new table, no number given out, and no clock accepted
-pub opening : (table : TableView) → tables.Stands table [] [] → Stands (record { table = table; count = 0; accepted = 0; earliest = 0; ended = [] }) [] []
-opening table st = record {
-  table = st;
-  made = refl;
-  count = refl;
-  few = omega arith;
-  clock = refl;
-  below = All-nil (λ (e : HistoryEntry). LooksBelow 0 0 never e.happening e.answer);
-  behind = omega arith;
-  accepted = λ k. none k;
-}
-  where
-    none : (k : ℕ) → false ≡ nat_lt k 0
-    none k = grind (arith, nat_tests)
 
 -- ---- nothing happens
 

@@ -1,5 +1,5 @@
 -- What is noted of the slots, once a table has changed.
-use Rattle.std.proofs.Common.{◌≡◌, ℕ, ◌+◌, ◌<◌, ◌≤◌, inl, inr, List, [], ◌∷◌, ◌++◌, length, Option, Some, None, refl, sym, ap, ◌∙◌, arith, subst}
+use Rattle.std.proofs.Common.{◌≡◌, ℕ, ◌+◌, ◌<◌, ◌≤◌, inr, List, [], ◌∷◌, ◌++◌, length, Option, Some, None, refl, sym, ap, ◌∙◌, arith, subst}
 use Rattle.std.specs.Prelude.{◌-◌, ◌*◌, slice_set, replicate, Result, Ok, Err, OnOk, OnErr}
 use Rattle.std.specs.List.{range_with_len}
 use Rattle.std.proofs.lemmas.List.{length-append, length-replicate}
@@ -147,11 +147,6 @@ twice_grown m new all is =
 pub twice_on_ok : {T E : Type 0} (r : Result T E) (m new : TableView) (slots : ℕ) → slots ≡ 2 * length m.slots + 4 → AreTaken m.slots → OnOk r (new ≡ grown m slots) → OnOk r (GrowsWhereTaken 4 m.slots new.slots)
 twice_on_ok (Ok x) m new slots twice all is = twice_grown m new all (is ∙ ap (grown m) twice)
 twice_on_ok (Err e) m new slots twice all is = tt
-
--- where a task comes into one of them
-pub grows_on : (old mid new : List (Option Seat)) → GrowsWhereTaken 4 old mid → length new ≡ length mid → tasks_in new ≡ tasks_in mid + 1 → GrowsWhereTaken 2 old new
-grows_on old mid new (inl same) long tasks = inl (omega (arith, same, long))
-grows_on old mid new (inr more) long tasks = inr (more.0, omega (arith, more.1, long, tasks))
 
 pub always_on_err : {T E P : Type 0} (r : Result T E) → P → OnErr r P
 always_on_err (Ok x) p = tt

@@ -168,10 +168,6 @@ noted_swept m new ends count free entries slot_room ended_room more_ended s room
     subst (AreNoted new.slots count free entries slot_room) (sym room)
     (noted_still m.slots new.slots count free entries slot_room ended_room (sweep_numbers m new ends s) noted)
 
--- what it ended may leave its slots
-pub over_swept : (m new : TableView) (ends : List TaskRef) → SweepEnds m new ends → AreOver new ends
-over_swept m new ends s = record { over = s.over; ascending = s.ended.ascending }
-
 -- where a table shows what a call led to, one shows it that stands where that one stands
 takes_still : (swept new : TableView) (calls : List Planned) (past : List HistoryEntry) (p : Planned) (r : Reply) → IsOrderlyFrom 0 0 calls → IsHistoryOf calls (workers_of swept) past → IsNextCall calls past p → workers_of new ≡ workers_of swept →
     ((calls : List Planned) (past : List HistoryEntry) → Stands swept calls past → Stands new calls past) → Takes swept calls past h.Call r → Takes new calls past h.Call r

@@ -1,15 +1,14 @@
 -- Whether a task waits: its slot tells, where it has one, and it does not where it has none.
-use Rattle.std.proofs.Common.{◌≡◌, ℕ, ◌<◌, ◌==◌, ◌||◌, ◌&&◌, Bool, true, false, List, Option, Some, None, refl, sym, ap, ◌∙◌}
+use Rattle.std.proofs.Common.{◌≡◌, ℕ, ◌<◌, ◌==◌, ◌&&◌, Bool, true, false, List, Option, Some, None, refl, sym, ap, ◌∙◌}
 use Rattle.std.specs.Prelude.{length, slice_set}
 use Rattle.std.specs.Option.{option_map_or}
-use Rattle.std.proofs.lemmas.Bool.{false≢true, eqb-true, eq-eqb, false_from_ne_true, and_parts, or_left}
+use Rattle.std.proofs.lemmas.Bool.{false≢true, eqb-true, eq-eqb, and_parts}
 use Rattle.queue_code.specs.Calls.{Planned}
-use Rattle.executor_model.specs.declared.task.Task.{Task}
 use Rattle.executor_model.specs.Histories.{HistoryEntry, happenings}
 use Rattle.executor_model.specs.State.{after}
 use Rattle.task_table.specs.declared.seat.Seat.{Seat}
 use Rattle.task_table.specs.declared.seat.TaskRef.{TaskRef}
-use Rattle.task_table.specs.Seats.{task_in, slot_of, waits, is_running_in, IsNew}
+use Rattle.task_table.specs.Seats.{task_in, slot_of, waits}
 use Rattle.task_table.specs.Tables.{TableView, workers_of}
 use Rattle.task_table.proofs.Written.{set_writes}
 use Rattle.live_core.specs.Lives.{LiveView, Stands}
@@ -22,14 +21,6 @@ waits_there m number slot at calls past st =
     ap (λ (o : Option Seat). option_map_or (λ x. waits (task_in x)) o false) at.1
     ∙ (ap waits (sym (st.table.shows.held slot at.0 at.1))
     ∙ ap (λ (n : ℕ). waits ((after calls (workers_of m.table) (happenings past)).tasks n)) at.2)
-
--- a task that no slot holds does not wait
-pub waits_nowhere : (m : LiveView) (number : ℕ) → IsNew m.table.slots number → TellsWaiting m number false
-waits_nowhere m number new calls past st =
-    let t : Task = (after calls (workers_of m.table) (happenings past)).tasks number in
-    sym (false_from_ne_true (waits t) (λ e.
-    let at = st.table.shows.known number (or_left (waits t || t.kept) (is_running_in t.phase) (or_left (waits t) t.kept e)) in
-    absurd (new at.0 at.1 at.2 at.3)))
 
 -- what is told is so of a task that stands in its own slot
 pub waits_told : (m : LiveView) (task : TaskRef) (calls : List Planned) (past : List HistoryEntry) (waiting : Bool) → Stands m calls past → TellsWaiting m task.number waiting → is_waiting_there m.table task ≡ true → waiting ≡ true

@@ -86,14 +86,6 @@ steps_started old m new worker b free sheds s calls past st = by b s calls past 
     by None s = s.steps
     by (Some b) s = s.steps
 
--- ---- a finish
-
--- what the slot of its task holds
-left_there : (m new : TableView) (worker : ℕ) (ending : Ending) (e : Ended) → (s : Ends m new worker ending e) → slot_of new.slots e.task.slot ≡ Some (ended e.outcome (due_past s.task.timing s.task.due m.moment) s.task)
-left_there m new worker ending e s =
-    let y = ended e.outcome (due_past s.task.timing s.task.due m.moment) s.task in
-    ap (λ (v : TableView). slot_of v.slots e.task.slot) s.is ∙ (set_writes m.slots e.task.slot y (slot_within m.slots e.task.slot s.task s.there)).here
-
 -- a task whose run ended keeps its number
 same_number : (outcome : Outcome) (due : ℕ) (x : Seat) → (ended outcome due x).number ≡ x.number
 same_number (o.Done value) due x = refl

@@ -170,15 +170,6 @@ line_end e.Refused workers m lines rest behind line read stop = inr (record { li
 line_end e.Full workers m lines rest behind line read stop = record { line = line; rest = behind; read = read; so = stop }
 line_end e.Memory workers m lines rest behind line read stop = record { line = line; rest = behind; read = read; so = stop }
 
--- ---- what is left of the bytes that are held
-
--- before any line
-pub none_left : (held : List ℕ) → held ≡ drop (length held - length held) held
-none_left held = ap (λ k. drop k held) (same (length held))
-  where
-    same : (n : ℕ) → 0 ≡ n - n
-    same n = omega arith
-
 -- once a text was taken
 pub left_more : (text held rest next : List ℕ) → rest ≡ drop (length held - length rest) held → length rest ≤ length held → rest ≡ text ++ next → next ≡ drop (length held - length next) held
 left_more text held rest next behind bound front =

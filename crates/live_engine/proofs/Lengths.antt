@@ -19,10 +19,9 @@ use Rattle.live_core.specs.Lives.{LiveView}
 use Rattle.live_core.specs.Said.{ending}
 use Rattle.live_engine.specs.declared.live_line.LiveLine.{LiveLine}
 use Rattle.live_engine.specs.declared.live_line.LiveLine.TheVariants as l
-use Rattle.live_engine.specs.declared.stops.PieceEnd.{PieceEnd}
 use Rattle.live_engine.specs.declared.stops.PieceEnd.TheVariants as e
 use Rattle.live_engine.specs.LiveLines.{LiveHistory, after_line, code_of, most_lines, planned_of, trace_length}
-use Rattle.live_engine.specs.own.LiveSteps.{IsAt, IsNoStep, IsNotTaken, Refuses, TakesLine}
+use Rattle.live_engine.specs.own.LiveSteps.{IsAt, IsNotTaken, Refuses, TakesLine}
 use Rattle.live_engine.proofs.Steps.{behind_all}
 
 -- an answer has a line, and one of each task that it ends
@@ -119,13 +118,3 @@ some_room old new line given written takes few workers so_far at counted =
     let after = takes workers so_far at in
     let adds = taken_adds old new line (ending given new.ended) takes workers so_far at in
     (after.may, neither _ _ after.within (λ many. omega (arith, adds, many, few, counted, ends_many given new.ended)))
-
--- why the executor does not take a line is why it is not taken, but that the trace may have no room for it
-pub not_taken : (end : PieceEnd) (workers : ℕ) (so_far : LiveHistory) (line : LiveLine) (written : ℕ) → written ≡ trace_length so_far → (end ≡ e.Memory → written < most_lines) → IsNoStep end workers so_far line → IsNotTaken end workers so_far line
-not_taken e.Part workers so_far line written counted some stop = absurd stop
-not_taken e.Refused workers so_far line written counted some stop = stop
-not_taken e.Full workers so_far line written counted some stop = (stop.0, inl stop.1)
-not_taken e.Memory workers so_far line written counted some stop = (stop.0, neither _ _ stop.1 (λ many. omega (arith, stop.2, many, counted, some refl)))
-
-pub no_room_left : (workers : ℕ) (so_far : LiveHistory) (line : LiveLine) (written : ℕ) → written ≡ trace_length so_far → most_lines ≤ written → IsNoStep e.Memory workers so_far line → IsNotTaken e.Full workers so_far line
-no_room_left workers so_far line written counted full stop = (stop.0, inr (omega (arith, stop.2, counted, full)))

@@ -51,17 +51,6 @@ may_call so_far call.Shutdown fits = tt
 may_call so_far call.ShutdownNow fits = tt
 may_call so_far call.Ask fits = tt
 
-fits_in : (so_far : LiveHistory) (made : CallLine) → FitsCall made → MayComeNext so_far (l.Call made) → FitsIn (task_count so_far.calls) made
-fits_in so_far (call.Schedule delay) fits may = fits
-fits_in so_far call.Execute fits may = tt
-fits_in so_far (call.Rate first period) fits may = fits
-fits_in so_far (call.Fixed first delay) fits may = fits
-fits_in so_far (call.Cancel task) fits may = may
-fits_in so_far (call.Policy which value) fits may = tt
-fits_in so_far call.Shutdown fits may = tt
-fits_in so_far call.ShutdownNow fits may = tt
-fits_in so_far call.Ask fits may = tt
-
 -- ---- a call's line
 
 -- the moment of the call that comes next
@@ -84,13 +73,6 @@ is_plain workers so_far s made shows tested =
       few = subst (λ calls. length calls < most_calls_of_code) shows.calls tested.few;
       near = subst (λ n. n ≤ longest) (moment_is workers so_far s shows) tested.near;
     }
-
-pub is_tested : (workers : ℕ) (so_far : LiveHistory) (s : ScriptView) (made : CallLine) → Shows workers so_far s → IsPlainCall so_far made → IsTested s made
-is_tested workers so_far s made shows plain = record {
-  few = subst (λ calls. length calls < most_calls_of_code) (sym shows.calls) plain.few;
-  near = subst (λ n. n ≤ longest) (sym (moment_is workers so_far s shows)) plain.near;
-  fits = subst (λ n. FitsIn n made) (sym shows.numbers) (fits_in so_far made plain.fits plain.may);
-}
 
 -- one call more
 pub call_shows : (workers : ℕ) (so_far : LiveHistory) (s : ScriptView) (made : CallLine) (moment : ℕ) (code : CodeCall) → Shows workers so_far s → IsTested s made → moment ≡ moment_in s → code ≡ code_of s.numbers made →

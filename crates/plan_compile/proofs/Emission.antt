@@ -1,5 +1,5 @@
 -- One turn of each loop that emits a plan's instructions.
-use Rattle.std.proofs.Common.{◌≡◌, ℕ, ◌+◌, ◌*◌, ◌≤◌, ◌<◌, Bool, List, [], ◌∷◌, ◌++◌, length, get_or, drop, take, refl, sym, ◌∙◌, ap, arith, append_assoc}
+use Rattle.std.proofs.Common.{◌≡◌, ℕ, ◌+◌, ◌*◌, ◌≤◌, ◌<◌, Bool, List, [], ◌∷◌, ◌++◌, length, get_or, drop, take, sym, ◌∙◌, ap, arith, append_assoc}
 use Rattle.std.proofs.lemmas.List.{drop_more, take_more}
 use Rattle.std.proofs.lemmas.Nat.{mul-le}
 use Rattle.queue_code.specs.declared.instr.Instr.{Instr}
@@ -7,13 +7,13 @@ use Rattle.plan_read.specs.declared.plans.Call.{Call}
 use Rattle.plan_read.specs.declared.plans.Header.{Header}
 use Rattle.plan_read.specs.declared.plans.Op.{Op}
 use Rattle.plan_read.specs.declared.plans.Op.TheVariants as ops
-use Rattle.plan_read.specs.Plans.{BlockTree, PlanTree, tasks_after, tasks_after_calls, made_by, AreCallsAfter, AreBlocksAfter, IsOrdered}
+use Rattle.plan_read.specs.Plans.{BlockTree, PlanTree, tasks_after, tasks_after_calls, made_by, AreCallsAfter, AreBlocksAfter}
 use Rattle.plan_read.proofs.Accepted.{made_from_one_more}
 use Rattle.plan_compile.specs.PlanCalls.{block_tasks}
-use Rattle.plan_compile.specs.PlanCode.{instr_of, instrs_at, block_instrs, instrs_from, instrs_of}
+use Rattle.plan_compile.specs.PlanCode.{instrs_at, block_instrs, instrs_from, instrs_of}
 use Rattle.plan_compile.specs.own.PlanCode.{IsBelow, AreInRange}
 use Rattle.plan_compile.proofs.Counting.{tasks_after-le, tasks_of-le}
-use Rattle.plan_compile.proofs.Ordering.{AreFirsts, firsts_start, firsts_next, op_below, count_next}
+use Rattle.plan_compile.proofs.Ordering.{AreFirsts, firsts_next, op_below, count_next}
 
 -- ---- what is left at an index
 
@@ -35,15 +35,6 @@ past_block bs i b h is = take_more bs i b h ∙ ap (λ (d : BlockTree). take i b
 pub record InstrsLeft (firsts : List ℕ) (first : ℕ) (repeated : Bool) (at : ℕ) (all : List Call) (old out : List Instr) (rest : List Call) : Type 0 where
   pub done : out ++ instrs_at firsts first repeated at rest ≡ old ++ instrs_at firsts first repeated at all
   pub range : AreInRange firsts first at rest
-
--- after the next call
-pub call_emitted : (firsts : List ℕ) (first : ℕ) (repeated : Bool) (at : ℕ) (all : List Call) (old out : List Instr) (c : Call) (rest : List Call)
-    → InstrsLeft firsts first repeated at all old out (c ∷ rest)
-    → InstrsLeft firsts first repeated at all old (out ++ instr_of firsts first repeated (at + c.at) c.op ∷ []) rest
-call_emitted firsts first repeated at all old out c rest left = record {
-  done = append_assoc out (instr_of firsts first repeated (at + c.at) c.op ∷ []) (instrs_at firsts first repeated at rest) ∙ left.done;
-  range = left.range.2;
-}
 
 -- ---- the blocks of a plan
 
@@ -68,10 +59,6 @@ pub record BlocksToEmit (all earlier rest : PlanTree) (firsts : List ℕ) (first
   pub known : AreFirsts earlier firsts first
   pub few : first ≤ made_by earlier
   pub made : made_by earlier ≤ 65536
-
--- before the first block
-pub none_emitted : (all : PlanTree) → IsOrdered all → BlocksToEmit all [] all [] 0 []
-none_emitted all ordered = record { done = refl; ordered = ordered.1; known = firsts_start; few = omega arith; made = omega arith }
 
 -- the submissions of a block are no more than its calls
 tasks_times : (b : BlockTree) → b.header.times * block_tasks b ≤ b.header.times * length b.calls

@@ -3,43 +3,16 @@ use Rattle.std.proofs.Common.{◌≡◌, ◌∙◌, ◌<◌, ℕ, ℤ, pos, zero
 use Rattle.std.proofs.lemmas.Slice.Eq.{bytes_eq-Decides}
 use Rattle.std.specs.Borrow.{Bor}
 use Rattle.std.specs.List.{list_any}
-use Rattle.std.specs.Prelude.{bytes_eq, codes, IfSome, option_and_then, option_copied, option_map}
-use Rattle.toml.specs.Data.{Data, string, integer, float, boolean, datetime, array, table, Members, as_integer, as_str, get_member}
+use Rattle.std.specs.Prelude.{bytes_eq, codes, option_and_then, option_map}
+use Rattle.toml.specs.Data.{Data, string, integer, float, boolean, datetime, array, table, Members, as_integer, get_member}
 use Rattle.toml.specs.View.{view}
 use Rattle.toml.specs.declared.value.Value.{Value}
-use Rattle.plan_read.specs.Keys.{call_keys, header_keys, is_key}
-use Rattle.plan_read.specs.declared.verbs.Verb.{Verb}
+use Rattle.plan_read.specs.Keys.{is_key}
 use Rattle.plan_read.specs.declared.versions.Version.{Version}
 use Rattle.plan_read.specs.declared.versions.Version.TheVariants.{One, Two}
 use Rattle.plan_reasons.specs.Told.{HasKeysOf}
 use Rattle.plan_reasons.specs.declared.keys.Key.{Key}
 use Rattle.plan_reasons.specs.own.Keys.{plan_keys}
-
--- ---- keys that belong in every table of a kind
-
-pub header_at : (version : Version) → is_key (header_keys version) (codes "at") ≡ true
-header_at One = refl
-header_at Two = refl
-
-pub header_times : (version : Version) → is_key (header_keys version) (codes "times") ≡ true
-header_times One = refl
-header_times Two = refl
-
-pub header_every : (version : Version) → is_key (header_keys version) (codes "every") ≡ true
-header_every One = refl
-header_every Two = refl
-
-pub header_call : (version : Version) → is_key (header_keys version) (codes "call") ≡ true
-header_call One = refl
-header_call Two = refl
-
-pub call_op : (version : Version) (verb : Verb) → is_key (call_keys version verb) (codes "op") ≡ true
-call_op One verb = refl
-call_op Two verb = refl
-
-pub call_at : (version : Version) (verb : Verb) → is_key (call_keys version verb) (codes "at") ≡ true
-call_at One verb = refl
-call_at Two verb = refl
 
 -- ---- one of some keys
 
@@ -64,19 +37,6 @@ any_key name (k ∷ keys) = ap (λ b. bytes_eq name k.name.now || b) (any_key na
 pub stands_like : (r : Option (Bor Value)) (o : Option Data) → option_map (λ v. view v.now) r ≡ o → is_some r ≡ is_some o
 stands_like None o e = ap is_some e
 stands_like (Some v) o e = ap is_some e
-
--- the text of a value that stands there
-pub text_stands : (o : Option Data) (r : Option (Bor (List ℕ))) → option_copied r ≡ option_and_then as_str o → IfSome r (λ _. is_some o ≡ true)
-text_stands None None e = tt
-text_stands None (Some w) e = absurd (grind (rules, e))
-text_stands (Some d) None e = tt
-text_stands (Some d) (Some w) e = refl
-
-pub integer_stands : (o : Option Data) (r : Option ℤ) → r ≡ option_and_then as_integer o → IfSome r (λ _. is_some o ≡ true)
-integer_stands None None e = tt
-integer_stands None (Some z) e = absurd (grind (rules, e))
-integer_stands (Some d) None e = tt
-integer_stands (Some d) (Some z) e = refl
 
 -- an integer at a key is what stands there
 integer_is : (o : Option Data) (z : ℤ) → option_and_then as_integer o ≡ Some z → o ≡ Some (integer z)

@@ -1,12 +1,9 @@
 -- EndCounts: what is counted of an end that was not called.
-use Rattle.std.proofs.Common.{ℕ, Result, Ok, Err, ap, refl}
+use Rattle.std.proofs.Common.{ℕ, Result, Ok, Err, refl}
 use Rattle.std.specs.Prelude.{IsErrOf}
 use Rattle.byte_ends.proofs.Tries.{no_try}
 use Rattle.sched_engine.specs.declared.report.RunError.TheVariants as x
-use Rattle.sched.specs.Answers.{end_of}
 use Rattle.sched.specs.EndCounts.{CountsInput}
-use Rattle.sched.specs.declared.answer.Answer.{Answer}
-use Rattle.sched.specs.declared.answer.Answer.TheVariants as a
 use Rattle.sched.specs.declared.error.ProgramError.{ProgramError}
 use Rattle.sched.specs.declared.error.ProgramError.TheVariants as f
 
@@ -35,9 +32,3 @@ unread (Err (f.Run x.Memory)) failed fruitless other = no_try failed fruitless
 abbrev fault_of : Result ℕ ProgramError → ProgramError
 fault_of (Ok status) = f.Run x.Read
 fault_of (Err fault) = fault
-
--- the same of an answer that may be a refusal
-pub unread_answer : (answer : Result Answer ProgramError) (failed fruitless : ℕ) → (IsErrOf answer (f.Run x.Read) → ⊥) → CountsInput (end_of answer) failed fruitless failed fruitless
-unread_answer (Ok (a.Status status)) failed fruitless other = no_try failed fruitless
-unread_answer (Ok (a.Refused line)) failed fruitless other = no_try failed fruitless
-unread_answer (Err fault) failed fruitless other = unread (Err fault) failed fruitless (λ q. other (ap Err (ap fault_of q)))

@@ -35,12 +35,6 @@ counts_of_plan (Ok text) f r f' r' counts = counts
 counts_of_plan (Err told) f r f' r' (inl fault) = rw fault.0 fault.1
 counts_of_plan (Err told) f r f' r' (inr memory) = rw memory.0 memory.1
 
--- a fault of a trace's file, as `whole_trace` tells it
-pub counts_of_trace : {T : Type 0} (result : Result T ProgramError) (f r f' r' : ℕ) → CountsFront TraceFile result f r f' r' → CountsFile result f r f' r'
-counts_of_trace (Ok text) f r f' r' counts = counts
-counts_of_trace (Err told) f r f' r' (inl fault) = rw fault.0 fault.1
-counts_of_trace (Err told) f r f' r' (inr memory) = rw memory.0 memory.1
-
 -- what is told of a plan's file that was opened, by what was told of its front
 pub plan_told : {P V : Type 0} (remaining : P → Option (List ℕ)) (failed fruitless : P → ℕ) (most : ℕ) (opened : Result P Error) (file after : P) (result : Result V ProgramError)
     → opened ≡ Ok file → IfErr result (IsOrMemory PlanFile) → TakesAtMost most (remaining file) (remaining after)

@@ -18,11 +18,6 @@ wrote_none (Some xs) = sym (append-nil xs)
 pub gives_none : (o : Output) → Gives o o []
 gives_none o = ([], wrote_none o.contents, append-nil o.text)
 
--- the text at hand was written
-pub gives_written : (a b : Output) (contents : Option (List ℕ)) (more text : List ℕ) → Gives a b more → Appends b.contents contents b.text → text ≡ [] → Gives a (record { contents = contents; text = text }) more
-gives_written a b contents more text given appends none =
-    (given.0 ++ b.text, gave a.contents b.contents contents given.0 b.text given.1 appends, given.2 ∙ (sym (append-nil (given.0 ++ b.text)) ∙ ap (λ l. (given.0 ++ b.text) ++ l) (sym none)))
-
 -- a text was put behind the text at hand
 pub gives_put : (a b : Output) (more next text : List ℕ) → Gives a b more → text ≡ b.text ++ next → Gives a (record { contents = b.contents; text = text }) (more ++ next)
 gives_put a b more next text given is =

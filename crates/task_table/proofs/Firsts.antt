@@ -22,9 +22,7 @@ use Rattle.task_table.specs.declared.seat.Seat.{Seat}
 use Rattle.task_table.specs.Seats.{task_in, slot_of, is_waiting_in, is_running_in, waits, is_alive}
 use Rattle.task_table.specs.Tables.{TableView, workers_of, WorkIs, Shows, keeping}
 use Rattle.task_table.specs.Firsts.{IsFirstDue, FirstIs, is_met}
-use Rattle.task_table.specs.Changes.{put, unkept}
 use Rattle.task_table.specs.own.Formed.{IsFormed}
-use Rattle.task_table.proofs.Written.{apart_eqb, Writes, set_writes, slot_within, read_slot}
 use Rattle.task_table.proofs.Standing.{Known}
 use Rattle.task_table.proofs.Clocks.{start_reply}
 
@@ -162,30 +160,3 @@ start_meets m calls s kept w (Some f) i x shows first there phase =
     let is : IsFirstDue m first.0 f = first.1 in
     let before = seen_due m calls s kept first.0 f shows is.there (waits_is (task_in f) is.waiting).0 in
     λ i. nat_le (seen i) (shows.moment i) && comes_before (seen i) x.number (before i) f.number
-
--- ---- a kept task that is kept no more
-
--- the next start gets the same task still
-pub first_stays : (m : TableView) (slot : ℕ) (x : Seat) (first : Option Seat) → IsFormed m → slot_of m.slots slot ≡ Some x → x.kept ≡ true → FirstIs m first → FirstIs (put m slot (unkept x)) first
-first_stays m slot x first formed there kept = by first
-  where
-    new : List (Option Seat)
-    new = (put m slot (unkept x)).slots
-
-    writes : Writes m.slots new slot (unkept x)
-    writes = set_writes m.slots slot (unkept x) (slot_within m.slots slot x there)
-
-    was : (i : ℕ) (y : Seat) → slot_of new i ≡ Some y → waits (task_in y) ≡ true → slot_of m.slots i ≡ Some y
-    was i y q waiting = elim (read_slot m.slots new slot i (unkept x) y writes q) [
-      | inl own ↦ absurd (kept_waits_not m slot x formed there kept (ap (λ (z : Seat). waits (task_in z)) own.1 ∙ waiting))
-      | inr left ↦ left.1
-    ]
-
-    by : (first : Option Seat) → FirstIs m first → FirstIs (put m slot (unkept x)) first
-    by None none = λ i y q waiting. none i y (was i y q waiting) waiting
-    by (Some f) first =
-        let is : IsFirstDue m first.0 f = first.1 in
-        let apart = apart_eqb slot first.0 (λ e. kept_waits_not m first.0 f formed is.there (ap (λ (z : Seat). z.kept) (same_Some f x (sym is.there ∙ (ap (slot_of m.slots) (sym e) ∙ there))) ∙ kept) is.waiting) in (
-          first.0,
-          record { there = writes.other first.0 apart ∙ is.there; waiting = is.waiting; due = is.due; least = λ i y q waiting. is.least i y (was i y q waiting) waiting },
-        )

@@ -4,20 +4,16 @@ use Rattle.std.specs.Option.{option_map}
 use Rattle.std.proofs.Math.ListN.{set}
 use Rattle.std.proofs.lemmas.Bool.{false≢true, or_right}
 use Rattle.std.proofs.lemmas.Option.{none-some, same_Some}
-use Rattle.std.proofs.lemmas.List.{length-set, length-replicate, length-append, length-map}
+use Rattle.std.proofs.lemmas.List.{length-set, length-replicate, length-append}
 use Rattle.sched_time.specs.Times.{longest}
-use Rattle.sched_time.specs.Policies.{default_policies}
 use Rattle.sched_time.specs.declared.timing.Timing.{Timing}
 use Rattle.sched_time.specs.declared.policies.Policies.{Policies}
 use Rattle.queue_code.specs.Calls.{IsTimed}
-use Rattle.executor_model.specs.Counts.{most_workers}
-use Rattle.executor_model.specs.State.{opening}
 use Rattle.executor_model.specs.declared.task.Stage.TheVariants as ph
 use Rattle.executor_model.proofs.Tables.{at_set, at_replicate}
 use Rattle.task_table.specs.declared.seat.Seat.{Seat}
 use Rattle.task_table.specs.Seats.{task_in, slot_of, is_alive, is_running_in, waits, IsNew}
-use Rattle.task_table.specs.Tables.{TableView, Shows, Stands, WorkIs}
-use Rattle.task_table.specs.Ends.{is_swept}
+use Rattle.task_table.specs.Tables.{TableView}
 use Rattle.task_table.specs.Changes.{submitted, at_moment, admitted, emptied, grown, swept, after_sweep}
 use Rattle.task_table.specs.own.Formed.{IsSeated, IsFormed}
 use Rattle.task_table.proofs.Written.{by_eqb, Writes, set_writes, slot_within, read_slot}
@@ -164,64 +160,3 @@ read_swept m i y q = by (slot_of m.slots i) refl (sym (at_swept m i) ∙ q)
     by : (o : Option Seat) → slot_of m.slots i ≡ o → option_map (λ x. swept m.stopped m.policies m.moment x) o ≡ Some y → (x : Seat) × (slot_of m.slots i ≡ Some x) × (swept m.stopped m.policies m.moment x ≡ y)
     by None is q = absurd (none-some y q)
     by (Some x) is q = (x, is, same_Some (swept m.stopped m.policies m.moment x) y q)
-
-seated_swept : (m : TableView) (x : Seat) → IsSeated m.moment x → IsSeated m.moment (swept m.stopped m.policies m.moment x)
-seated_swept m x s =
-    let ends = is_swept m.stopped m.policies m.moment x in
-    record { submitted = s.submitted; due = s.due; timed = s.timed; reached = s.reached; room = s.room; kept = λ q. ((s.kept q).0, or_right ends x.cancelled (s.kept q).1); over = λ q. or_right ends x.cancelled (s.over q) }
-
-pub formed_swept : (m : TableView) → IsFormed m → IsFormed (after_sweep m)
-formed_swept m f = record {
-  moment = f.moment;
-  some = f.some;
-  few = f.few;
-  slots = omega (arith, f.slots, length-map m.slots (option_map (λ x. swept m.stopped m.policies m.moment x)));
-  seated = λ i y q. let at = read_swept m i y q in subst (IsSeated m.moment) at.2 (seated_swept m at.0 (f.seated i at.0 at.1));
-  apart = λ i j u v p q e.
-      let left = read_swept m i u p in
-      let right = read_swept m j v q in
-      f.apart i j left.0 right.0 left.1 right.1 (ap (λ (z : Seat). z.number) left.2 ∙ (e ∙ sym (ap (λ (z : Seat). z.number) right.2)));
-  staffed = λ w i q. let at = f.staffed w i q in (swept m.stopped m.policies m.moment at.0, at_swept m i ∙ ap (option_map (λ x. swept m.stopped m.policies m.moment x)) at.1, at.2);
-  alone = f.alone;
-}
-
--- ---- the table before anything happened
-
--- a table of these slots, with so many workers
-abbrev pub opened : List (Option Seat) → ℕ → TableView
-opened slots workers = record { moment = 0; slots = slots; work = replicate workers None; policies = default_policies; shut = false; stopped = false }
-
--- no slot holds a task
-abbrev pub AreEmpty : List (Option Seat) → Type 0
-AreEmpty slots = (i : ℕ) → slot_of slots i ≡ None
-
--- so none is read from one
-pub none_there : {X : Type 0} (slots : List (Option Seat)) (i : ℕ) (x : Seat) → AreEmpty slots → slot_of slots i ≡ Some x → X
-none_there slots i x empty q = absurd (none-some x (sym (empty i) ∙ q))
-
-pub formed_new : (slots : List (Option Seat)) (workers : ℕ) → AreEmpty slots → length slots < 2 ^ 32 → 0 < workers → workers ≤ most_workers → IsFormed (opened slots workers)
-formed_new slots workers empty low some few = record {
-  moment = omega arith;
-  some = omega (arith, some, length-replicate workers (let none : Option ℕ = None in none));
-  few = omega (arith, few, length-replicate workers (let none : Option ℕ = None in none));
-  slots = low;
-  seated = λ i x q. none_there slots i x empty q;
-  apart = λ i j x y p. none_there slots i x empty p;
-  staffed = λ w i q. absurd (none-some i (sym (at_replicate workers w None) ∙ q));
-  alone = λ v w i q. absurd (none-some i (sym (at_replicate workers v None) ∙ q));
-}
-
-shows_new : (slots : List (Option Seat)) (workers : ℕ) → AreEmpty slots → Shows (opened slots workers) opening
-shows_new slots workers empty = record {
-  moment = refl;
-  policies = refl;
-  shut = refl;
-  stopped = refl;
-  held = λ i x q. none_there slots i x empty q;
-  known = λ k q. absurd (false≢true q);
-  work = λ w. subst (λ o. WorkIs slots o None) (sym (at_replicate workers w None)) refl;
-}
-
--- it stands where nothing happened
-pub stands_new : (slots : List (Option Seat)) (workers : ℕ) → AreEmpty slots → Stands (opened slots workers) [] []
-stands_new slots workers empty = record { orderly = tt; means = tt; shows = shows_new slots workers empty }

@@ -121,7 +121,3 @@ least_unmet m entries kept slot due number x first formed q least there unmet i 
 -- where no entry is kept, no task is
 pub none_kept : (m : TableView) (entries kept : ℕ → Option (ℕ × ℕ)) → Queues m entries kept → ((i : ℕ) → kept i ≡ None) → NoneKept m
 none_kept m entries kept q none i x there = false_from_ne_true x.kept (λ held. absurd (none-some (x.due, x.number) (sym (none i) ∙ kept_at m entries kept i x q there held)))
-
--- where no task is kept, a start meets none
-pub meets_none : (m : TableView) (first : Option Seat) → NoneKept m → MeetsNone m first
-meets_none m first none i x there held = absurd (false≢true (sym (none i x there) ∙ held))

@@ -2,7 +2,7 @@
 use Rattle.std.proofs.Common.{◌≡◌, ℕ, ◌+◌, ◌-◌, ◌^◌, ◌<◌, ◌≤◌, nat_le, ◌&&◌, ◌||◌, zero, suc, Bool, true, false, cond, inl, inr, List, [], ◌∷◌, Option, Some, None, refl, sym, ap, ◌∙◌, arith, subst}
 use Rattle.std.specs.Prelude.{◌↔◌, not, IfSome, IfNone, IsTrue}
 use Rattle.std.proofs.Math.ListN.{set}
-use Rattle.std.proofs.lemmas.Bool.{false≢true, or_left, or_right, or_cases, leb-true, leb-false}
+use Rattle.std.proofs.lemmas.Bool.{false≢true, or_right, or_cases, leb-true, leb-false}
 use Rattle.std.proofs.lemmas.Bool.Decides.{nat_tests}
 use Rattle.std.proofs.lemmas.Option.{none-some, same_Some}
 use Rattle.delay_queue.specs.Queues.{comes_before}
@@ -10,7 +10,7 @@ use Rattle.queue_code.specs.Calls.{how_many}
 use Rattle.task_table.specs.declared.seat.Seat.{Seat}
 use Rattle.task_table.specs.Seats.{task_in, slot_of, waits, is_alive, is_waiting_in, is_running_in}
 use Rattle.task_table.specs.Tables.{TableView}
-use Rattle.task_table.specs.Firsts.{IsFirstDue, NoneDue, FirstIs, MeetsNone, NoneMet, NoneKept, holds_kept, kept_in, IsEarliest, NoneWaits, IsRipe}
+use Rattle.task_table.specs.Firsts.{NoneDue, FirstIs, MeetsNone, NoneMet, NoneKept, holds_kept, kept_in, IsEarliest, NoneWaits, IsRipe}
 use Rattle.task_table.specs.Changes.{put, unkept}
 use Rattle.task_table.specs.Runs.{Drops, IsFull}
 use Rattle.task_table.specs.own.Formed.{IsFormed, IsSeated}
@@ -170,28 +170,11 @@ drops m n slot due number formed head is = record {
   fewer = ap (λ (u : TableView). kept_in u.slots + 1) is ∙ fewer m.slots slot head.task head.there head.kept;
 }
 
--- ---- the first task that is due has had so many runs that no number is left
-
--- not where none is due
-pub none_full : (m : TableView) → NoneDue m → IsFull m → ⊥
-none_full m none full = none full.slot full.task full.first.there full.first.waiting full.first.due
-
--- what a slot says that holds it
-pub full_there : (m : TableView) (slot due number : ℕ) (x : Seat) → HeadsQueue m slot due number → slot_of m.slots slot ≡ Some x → x.run ≡ 2 ^ 64 - 1 → IsFull m
-full_there m slot due number x head there last =
-    record { slot = slot; task = x; first = subst (IsFirstDue m slot) (same_Some head.task x (sym head.first.there ∙ there)) head.first; last = last }
-
 pub not_full : (m : TableView) (slot due number : ℕ) (x : Seat) → HeadsQueue m slot due number → slot_of m.slots slot ≡ Some x → (x.run ≡ 2 ^ 64 - 1 → ⊥) → IsFull m → ⊥
 not_full m slot due number x head there less full =
     let one : head.task ≡ x = same_Some head.task x (sym head.first.there ∙ there) in
     let same : head.task ≡ full.task = same_Some head.task full.task (first_same m (Some head.task) (Some full.task) (slot, head.first) (full.slot, full.first)) in
     less (ap (λ (z : Seat). z.run) (sym one ∙ same) ∙ full.last)
-
--- ---- whether a task that stands in the queue is due
-
--- the first task that waits is due
-pub ripe_first : (m : TableView) (slot due number : ℕ) → HeadsQueue m slot due number → IsRipe m
-ripe_first m slot due number head = (slot, head.task, head.first.there, or_left (waits (task_in head.task)) head.task.kept head.first.waiting, head.first.due)
 
 -- the first kept one is
 pub ripe_kept : (m : TableView) (slot due number : ℕ) → HeadsKept m slot due number → due ≤ m.moment → IsRipe m
@@ -205,10 +188,6 @@ unripe m none kept ripe = elim (or_cases (waits (task_in ripe.1)) ripe.1.kept ri
 pub unripe_kept : (m : TableView) (slot due number : ℕ) → NoneDue m → HeadsKept m slot due number → m.moment < due → IsRipe m → ⊥
 unripe_kept m slot due number none head ahead =
     unripe m none (λ i x there held ripe. false≢true (sym (head.unmet None (ahead_of head.task.due m.moment (omega (arith, head.dues, ahead))) i x there held) ∙ reached x.due m.moment ripe))
-
--- where none is kept, none is
-pub unripe_none : (m : TableView) → NoneDue m → NoneKept m → IsRipe m → ⊥
-unripe_none m none empty = unripe m none (λ i x there held ripe. false≢true (sym (empty i x there) ∙ held))
 
 -- where no task that waits is due, one is where the first kept one is
 pub ripe_where : (m : TableView) (slot due number now : ℕ) → NoneDue m → HeadsKept m slot due number → now ≡ m.moment → IsTrue (nat_le due now) ↔ IsRipe m

@@ -1,7 +1,6 @@
 -- What stands in the two queues of a table after each change.
 use Rattle.std.proofs.Common.{◌≡◌, ℕ, ◌+◌, ◌-◌, ◌<◌, ◌==◌, ◌&&◌, ◌||◌, Bool, true, false, cond, List, length, Option, Some, None, refl, sym, ap, ◌∙◌, subst}
 use Rattle.std.specs.Prelude.{slice_index_or, not}
-use Rattle.std.specs.Option.{option_map, option_map_or}
 use Rattle.std.proofs.Math.ListN.{set}
 use Rattle.std.proofs.lemmas.Bool.{false≢true, eqb-true, false_from_ne_true}
 use Rattle.std.proofs.lemmas.Option.{same_Some}
@@ -17,13 +16,13 @@ use Rattle.executor_model.proofs.Tables.{at_set}
 use Rattle.task_table.specs.declared.seat.Seat.{Seat}
 use Rattle.task_table.specs.Seats.{task_in, slot_of, is_waiting_in, is_running_in, waits, is_alive}
 use Rattle.task_table.specs.Tables.{TableView}
-use Rattle.task_table.specs.Ends.{is_swept, effect_of, ends_at_slot}
-use Rattle.task_table.specs.Changes.{put, submitted, at_moment, admitted, begun, started, ended, finished, cancelled, cancel_by, cancel_in, emptied, grown, unkept, swept, after_sweep}
+use Rattle.task_table.specs.Ends.{effect_of}
+use Rattle.task_table.specs.Changes.{put, submitted, at_moment, admitted, begun, started, ended, finished, cancelled, cancel_by, cancel_in, emptied, grown, unkept}
 use Rattle.task_table.specs.own.Formed.{IsFormed}
 use Rattle.task_table.specs.Orders.{with_key}
-use Rattle.task_table.specs.own.Queues.{Queues, key_where, queued_key, kept_key, key_again, key_cancelled, without_swept}
+use Rattle.task_table.specs.own.Queues.{Queues, key_where, queued_key, kept_key, key_again, key_cancelled}
 use Rattle.task_table.proofs.Written.{slot_within}
-use Rattle.task_table.proofs.Formed.{at_grown, at_swept, opened, AreEmpty}
+use Rattle.task_table.proofs.Formed.{at_grown}
 
 -- ---- a change that leaves what the slots hold
 
@@ -39,9 +38,6 @@ queues_under m policies shut stopped entries kept = queues_alike m (record m { p
 
 pub queues_grown : (m : TableView) (slots : ℕ) (entries kept : ℕ → Option (ℕ × ℕ)) → Queues m entries kept → Queues (grown m slots) entries kept
 queues_grown m slots entries kept = queues_alike m (grown m slots) entries kept (at_grown m.slots (slots - length m.slots))
-
-pub queues_new : (slots : List (Option Seat)) (workers : ℕ) (entries kept : ℕ → Option (ℕ × ℕ)) → AreEmpty slots → ((i : ℕ) → entries i ≡ None) → ((i : ℕ) → kept i ≡ None) → Queues (opened slots workers) entries kept
-queues_new slots workers entries kept empty none also = record { waiting = λ i. none i ∙ ap queued_key (sym (empty i)); keeping = λ i. also i ∙ ap kept_key (sym (empty i)) }
 
 -- ---- one slot is written
 
@@ -173,39 +169,7 @@ queues_cancelled m slot x entries kept formed there did q =
     holds : kept_key (Some (cancelled m.policies.removes x)) ≡ key_cancelled m.policies.removes x
     holds = ap (λ b. key_where (b || (is_waiting_in x.phase && not m.policies.removes)) x) out
 
--- a cancel without effect changes nothing
-pub queues_not_cancelled : (m : TableView) (slot : ℕ) (x : Seat) (entries kept : ℕ → Option (ℕ × ℕ)) → effect_of x ≡ f.No → Queues m entries kept → Queues (cancel_in m slot x) entries kept
-queues_not_cancelled m slot x entries kept none q = subst (λ effect. Queues (cancel_by effect m slot x) entries kept) (sym none) q
-
 pub queues_unkept : (m : TableView) (slot : ℕ) (x : Seat) (entries kept : ℕ → Option (ℕ × ℕ)) → slot_of m.slots slot ≡ Some x → Queues m entries kept → Queues (put m slot (unkept x)) entries (with_key kept slot None)
 queues_unkept m slot x entries kept there q =
     let w = queues_to m (put m slot (unkept x)) slot (Some (unkept x)) (queued_key (Some x)) None entries kept (slot_within m.slots slot x there) refl refl refl q in
     record { waiting = λ i. same_key entries slot (queued_key (Some x)) (q.waiting slot ∙ ap queued_key there) i ∙ w.waiting i; keeping = w.keeping }
-
--- ---- a sweep
-
--- a task that is swept waits no more, and another one does as before
-queued_swept : (stopped : Bool) (policies : Policies) (moment : ℕ) (x : Seat) → cond (is_swept stopped policies moment x) None (queued_key (Some x)) ≡ queued_key (Some (swept stopped policies moment x))
-queued_swept stopped policies moment x = by (is_swept stopped policies moment x) (is_waiting_in x.phase)
-  where
-    by : (b c : Bool) → cond b None (key_where (c && not x.cancelled) x) ≡ key_where (c && not (b || x.cancelled)) x
-    by true true = refl
-    by true false = refl
-    by false c = refl
-
-pub queues_swept : (m : TableView) (entries kept : ℕ → Option (ℕ × ℕ)) → Queues m entries kept → Queues (after_sweep m) (without_swept m entries) kept
-queues_swept m entries kept q = record {
-  waiting = λ i. ap (cond (ends_at_slot m i) None) (q.waiting i) ∙ (leaves (slot_of m.slots i) ∙ ap queued_key (sym (at_swept m i)));
-  keeping = λ i. q.keeping i ∙ (holds (slot_of m.slots i) ∙ ap kept_key (sym (at_swept m i)));
-}
-  where
-    each : Option Seat → Option Seat
-    each = option_map (λ x. swept m.stopped m.policies m.moment x)
-
-    leaves : (o : Option Seat) → cond (option_map_or (is_swept m.stopped m.policies m.moment) o false) None (queued_key o) ≡ queued_key (each o)
-    leaves None = refl
-    leaves (Some x) = queued_swept m.stopped m.policies m.moment x
-
-    holds : (o : Option Seat) → kept_key o ≡ kept_key (each o)
-    holds None = refl
-    holds (Some x) = refl

@@ -10,19 +10,18 @@ use Rattle.executor_model.proofs.Tables.{at_set}
 use Rattle.sched_time.specs.Times.{longest}
 use Rattle.sched_time.specs.declared.timing.Timing.{Timing}
 use Rattle.queue_code.specs.Calls.{IsTimed}
-use Rattle.executor_model.specs.Counts.{IsWorkerCount}
 use Rattle.slot_queue.specs.Entries.{Key}
 use Rattle.slot_queue.specs.Queues.{with_slots}
 use Rattle.task_table.specs.declared.seat.Seat.{Seat}
 use Rattle.task_table.specs.Seats.{task_in, slot_of, is_alive, IsNew}
 use Rattle.task_table.specs.Tables.{TableView}
 use Rattle.task_table.specs.own.Formed.{IsFormed}
-use Rattle.task_table.specs.Changes.{submitted, at_moment, admitted, emptied, grown}
+use Rattle.task_table.specs.Changes.{submitted, admitted, emptied, grown}
 use Rattle.executor_model.specs.declared.task.Stage.TheVariants as ph
 use Rattle.task_table.specs.Orders.{keys, with_key}
-use Rattle.task_table.specs.own.Queues.{Queues, queued_key, IsTable}
-use Rattle.task_table.proofs.Formed.{formed_moment, formed_admitted, formed_emptied, formed_grown, formed_new, opened, AreEmpty, none_there, at_grown}
-use Rattle.task_table.proofs.Queued.{queues_moment, queues_grown, queues_new, queues_admitted, queues_emptied}
+use Rattle.task_table.specs.own.Queues.{Queues, IsTable}
+use Rattle.task_table.proofs.Formed.{formed_admitted, formed_emptied, formed_grown, at_grown}
+use Rattle.task_table.proofs.Queued.{queues_grown, queues_admitted, queues_emptied}
 use Rattle.task_table.proofs.Keys.{keys_grown}
 use Rattle.task_table.proofs.Written.{set_writes, read_slot, slot_within}
 
@@ -68,19 +67,6 @@ pub tabled_roomy : {a : ℕ → ℕ → Bool} {r : ℕ → Bool} (m : TableView)
     IsTable a r m entries kept more spare_more
 tabled_roomy m entries kept room spare more spare_more t same also = record { formed = t.formed; queues = t.queues; room = omega (arith, t.room, same); spare = omega (arith, t.spare, also); fits = t.fits; runs = t.runs }
 
--- ---- the table before anything happened, and its room
-
-pub tabled_new : {a : ℕ → ℕ → Bool} {r : ℕ → Bool} {room spare : ℕ} (slots : List (Option Seat)) (workers : ℕ) (entries kept : ℕ → Option (ℕ × ℕ)) → AreEmpty slots → length slots < 2 ^ 32 → IsWorkerCount workers →
-    ((i : ℕ) → entries i ≡ None) → length slots ≤ room → ((i : ℕ) → kept i ≡ None) → length slots ≤ spare → IsTable a r (opened slots workers) entries kept room spare
-tabled_new slots workers entries kept empty low count none roomy also spacious = record {
-  formed = formed_new slots workers empty low (omega (arith, count.0)) count.1;
-  queues = queues_new slots workers entries kept empty none also;
-  room = roomy;
-  spare = spacious;
-  fits = λ i x there. none_there slots i x empty there;
-  runs = λ i x there. none_there slots i x empty there;
-}
-
 -- there are so many slots at least
 long : {X : Type 0} (xs : List X) (n : ℕ) (x : X) → length (xs ++ replicate (n - length xs) x) ≡ length xs + (n - length xs)
 long xs n x = length-append xs (replicate (n - length xs) x) ∙ ap (λ k. length xs + k) (length-replicate (n - length xs) x)
@@ -122,14 +108,6 @@ tabled_admitted m slot number at timing delay entries kept after t empty low fre
     tabled_put m n slot (submitted number timing (at + delay)) entries kept after kept t (formed_admitted m slot number at timing delay t.formed empty low fresh ahead near short timed) refl low fit
     (λ q. let clash : ph.Waiting ≡ ph.Running = q in absurd cc)
     (queues_as n (with_key entries slot (Some (at + delay, number))) kept after kept (queues_admitted m slot number at timing delay entries kept empty low t.queues) is (λ i. refl))
-
--- an empty slot has no entry
-pub empty_absent : {a : ℕ → ℕ → Bool} {r : ℕ → Bool} {room spare : ℕ} (m : TableView) (slot : ℕ) (entries kept : ℕ → Option (ℕ × ℕ)) → IsTable a r m entries kept room spare → slot_of m.slots slot ≡ None → entries slot ≡ None
-empty_absent m slot entries kept t empty = t.queues.waiting slot ∙ ap queued_key empty
-
-pub tabled_moment : {a : ℕ → ℕ → Bool} {r : ℕ → Bool} {room spare : ℕ} (m : TableView) (at : ℕ) (entries kept : ℕ → Option (ℕ × ℕ)) → IsTable a r m entries kept room spare → m.moment ≤ at → at ≤ longest →
-    IsTable a r (at_moment m at) entries kept room spare
-tabled_moment m at entries kept t ahead near = record { formed = formed_moment m at t.formed ahead near; queues = queues_moment m at entries kept t.queues; room = t.room; spare = t.spare; fits = t.fits; runs = t.runs }
 
 pub tabled_emptied : {a : ℕ → ℕ → Bool} {r : ℕ → Bool} {room spare : ℕ} (m : TableView) (slot : ℕ) (x : Seat) (entries kept : ℕ → Option (ℕ × ℕ)) → IsTable a r m entries kept room spare → slot_of m.slots slot ≡ Some x →
     is_alive (task_in x) ≡ false → IsTable a r (emptied m slot) entries kept room spare

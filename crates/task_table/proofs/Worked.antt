@@ -1,5 +1,5 @@
 -- A table and its two queues stay as they should be where a run begins and ends, and where a task is cancelled or kept no more.
-use Rattle.std.proofs.Common.{◌≡◌, ℕ, ◌+◌, ◌^◌, ◌<◌, ◌≤◌, ◌&&◌, ◌||◌, Bool, true, false, cond, length, Option, Some, None, refl, sym, ap, ◌∙◌, arith, subst}
+use Rattle.std.proofs.Common.{◌≡◌, ℕ, ◌+◌, ◌^◌, ◌<◌, ◌≤◌, ◌&&◌, ◌||◌, Bool, true, false, cond, Option, Some, None, refl, sym, ap, ◌∙◌, arith, subst}
 use Rattle.std.specs.Prelude.{slice_index_or, not}
 use Rattle.std.proofs.lemmas.Bool.{false≢true, false_from_ne_true}
 use Rattle.std.proofs.lemmas.Option.{same_Some}
@@ -27,10 +27,6 @@ use Rattle.task_table.proofs.Formed.{formed_moment, formed_under}
 use Rattle.task_table.proofs.FormedWork.{formed_put, formed_started, formed_finished, formed_cancelled, formed_unkept}
 use Rattle.task_table.proofs.Queued.{queues_moment, queues_under, queues_but_kept, same_key, queues_started, queues_finished, queues_cancelled, queues_unkept}
 use Rattle.task_table.proofs.Tabled.{queues_as, tabled_put}
-
--- a slot that holds a task has room in each queue
-pub inside : (m : TableView) (slot : ℕ) (x : Seat) (room : ℕ) → length m.slots ≤ room → slot_of m.slots slot ≡ Some x → slot < room
-inside m slot x room long there = omega (arith, long, slot_within m.slots slot x there)
 
 -- ---- a run begins
 

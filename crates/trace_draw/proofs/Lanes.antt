@@ -35,11 +35,6 @@ starts : (moment : ℕ) (message : Message) (later : List Line) (bar : Bar) → 
 starts moment (m.Answer r) later bar is = starts_by moment r later bar is
 starts moment (m.End task) later bar is = absurd (none-some bar is)
 
--- the bars of lines: that of the first, or those behind it
-record Behind (line : Line) (later : List Line) (i : ℕ) (bar : Bar) : Type 0 where
-  pub j : ℕ
-  pub at : slice_get (bars_of later) j ≡ Some bar
-
 pub bar_at : (b : Option Bar) (bars : List Bar) (i : ℕ) (bar : Bar) → slice_get (cons_option b bars) i ≡ Some bar → (b ≡ Some bar) ⊎ ((j : ℕ) × (slice_get bars j ≡ Some bar))
 bar_at None bars i bar is = inr (i, is)
 bar_at (Some first) bars zero bar is = inl is

@@ -22,14 +22,6 @@ increasing_push xs y sorted below k within =
           omega (arith, get_or_append_left xs (y ∷ []) 0 k (omega (arith, at)), get_or_push xs y 0 (k + 1) at, below (get_or xs k 0) (Contains-get_or xs k 0 (omega (arith, at))))
     ]
 
--- below 1 there is none
-pub none_below : (P : ℕ → Type 0) → AreThose P 1 []
-none_below P = record {
-  sound = λ n has. absurd (omega (arith, has.1));
-  whole = λ n least below holds. absurd (omega (arith, least, below));
-  ascending = λ k within. absurd (omega (arith, within));
-}
-
 -- the next one is one of them
 pub one_more : (P : ℕ → Type 0) (n : ℕ) (numbers : List ℕ) → 1 ≤ n → P n → AreThose P n numbers → AreThose P (n + 1) (numbers ++ n ∷ [])
 one_more P n numbers least holds those = record {

@@ -3,7 +3,7 @@ use Rattle.std.proofs.Common.{◌≡◌, ℕ, zero, suc, ◌+◌, ◌<◌, ◌�
 use Rattle.std.specs.Prelude.{flat_map, slice_get}
 use Rattle.std.specs.List.{AllByRecursion, AllPairs, filter, sum_by}
 use Rattle.std.proofs.lemmas.Grind.{flat_map-append}
-use Rattle.std.proofs.lemmas.List.{take_more, drop_more, drop_all, length-append}
+use Rattle.std.proofs.lemmas.List.{take_more, drop_more, length-append}
 use Rattle.std.proofs.lemmas.List.Concat.{length-flat_map}
 use Rattle.std.proofs.lemmas.Option.{none-some, same_Some}
 use Rattle.trace_svg.specs.Groups.{groups_from, groups_of}
@@ -55,32 +55,12 @@ ends joins group x later is = ap (λ b. cond b (groups_from joins (group ++ x �
 abbrev pub AreFirst : {X : Type 0} → (List X → X → Bool) → List X → ℕ → Type 0
 AreFirst joins xs i = groups_of joins xs ≡ groups_from joins (take i xs) (drop i xs)
 
-pub one_is_first : {X : Type 0} (joins : List X → X → Bool) (xs : List X) → 0 < length xs → AreFirst joins xs 1
-one_is_first joins [] some = absurd (omega arith)
-one_is_first joins (x ∷ later) some = refl
-
 pub one_more : {X : Type 0} (joins : List X → X → Bool) (xs : List X) (i : ℕ) (d : X) → i < length xs → AreFirst joins xs i → joins (take i xs) (get_or xs i d) ≡ true → AreFirst joins xs (i + 1)
 one_more joins xs i d low first is =
     first
     ∙ (ap (λ rest. groups_from joins (take i xs) rest) (drop_more xs i d low)
     ∙ (grows joins (take i xs) (get_or xs i d) (drop (i + 1) xs) is
     ∙ ap (λ group. groups_from joins group (drop (i + 1) xs)) (sym (take_more xs i d low))))
-
-pub no_more : {X : Type 0} (joins : List X → X → Bool) (xs : List X) (i : ℕ) (d : X) → i < length xs → AreFirst joins xs i → joins (take i xs) (get_or xs i d) ≡ false → groups_of joins xs ≡ take i xs ∷ groups_of joins (drop i xs)
-no_more joins xs i d low first is =
-    first
-    ∙ (ap (λ rest. groups_from joins (take i xs) rest) (drop_more xs i d low)
-    ∙ (ends joins (take i xs) (get_or xs i d) (drop (i + 1) xs) is
-    ∙ ap (λ rest. take i xs ∷ groups_of joins rest) (sym (drop_more xs i d low))))
-
-pub all_are_first : {X : Type 0} (joins : List X → X → Bool) (xs : List X) (i : ℕ) → length xs ≤ i → AreFirst joins xs i → groups_of joins xs ≡ take i xs ∷ groups_of joins (drop i xs)
-all_are_first joins xs i high first =
-    first ∙ (ap (λ rest. groups_from joins (take i xs) rest) (drop_all i xs high) ∙ ap (λ rest. take i xs ∷ groups_of joins rest) (sym (drop_all i xs high)))
-
--- the index may be given as the length
-pub whole_is_first : {X : Type 0} (joins : List X → X → Bool) (xs : List X) (i : ℕ) → i ≡ length xs → AreFirst joins xs i → groups_of joins xs ≡ take (length xs) xs ∷ groups_of joins (drop (length xs) xs)
-whole_is_first joins xs i is first =
-    subst (λ n. groups_of joins xs ≡ take n xs ∷ groups_of joins (drop n xs)) is (all_are_first joins xs i (omega arith) first)
 
 -- ---- groups that are written, one behind the other
 
@@ -90,11 +70,6 @@ pub one_written : {X : Type 0} (joins : List X → X → Bool) (write : List X �
 one_written joins write old new all xs front behind cut put kept =
     rw put (append_assoc old (write front) (flat_map write (groups_of joins behind)))
     ∙ (ap (λ gs. old ++ flat_map write gs) (sym cut) ∙ kept)
-
--- none is left
-pub all_written : {X : Type 0} (joins : List X → X → Bool) (write : List X → List ℕ) (old all : List ℕ) (xs : List X) → length xs ≡ 0 → old ++ flat_map write (groups_of joins xs) ≡ all → old ≡ all
-all_written joins write old all [] none kept = sym (append-nil old) ∙ kept
-all_written joins write old all (x ∷ later) none kept = absurd (omega arith)
 
 -- ---- what holds of each group
 

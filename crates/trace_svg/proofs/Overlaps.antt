@@ -1,5 +1,5 @@
 -- Groups of what lies over one another, and of what stands at one place.
-use Rattle.std.proofs.Common.{◌≡◌, ℕ, zero, suc, ◌<◌, ◌≤◌, ◌==◌, Bool, true, false, List, [], ◌∷◌, ◌++◌, Some, length, take, get_or, refl, sym, subst, ◌∙◌, arith}
+use Rattle.std.proofs.Common.{◌≡◌, ℕ, suc, ◌<◌, ◌≤◌, ◌==◌, Bool, true, false, List, [], ◌∷◌, ◌++◌, Some, length, refl, sym, subst, ◌∙◌, arith}
 use Rattle.std.specs.Prelude.{nat_lt, max, fold, slice_get}
 use Rattle.std.specs.List.{AllByRecursion}
 use Rattle.std.proofs.lemmas.Bool.{eqb-true}
@@ -19,12 +19,6 @@ begins_before l r group x = nat_lt (l x) (reach r group)
 abbrev pub is_there : {X : Type 0} → (X → ℕ) → List X → X → Bool
 is_there l group x = l x == of_first l group
 
-pub is_less : (a b c : ℕ) → a < b → b ≡ c → nat_lt a c ≡ true
-is_less a b c less is = grind (arith, nat_tests)
-
-pub is_not_less : (a b c : ℕ) → b ≤ a → b ≡ c → nat_lt a c ≡ false
-is_not_less a b c low is = grind (arith, nat_tests)
-
 pub less : (a b : ℕ) → nat_lt a b ≡ true → a < b
 less a b is = grind (arith, nat_tests)
 
@@ -39,12 +33,6 @@ not_same a b is low = grind (arith, nat_tests)
 pub first_stays : {X : Type 0} (f : X → ℕ) (group : List X) (x : X) → 0 < length group → of_first f (group ++ x ∷ []) ≡ of_first f group
 first_stays f [] x some = absurd (omega arith)
 first_stays f (y ∷ ys) x some = refl
-
--- the first of the items before an index
-pub first_of_front : {X : Type 0} (f : X → ℕ) (xs : List X) (i : ℕ) (d : X) → 0 < i → 0 < length xs → of_first f (take i xs) ≡ f (get_or xs 0 d)
-first_of_front f [] i d some full = absurd (omega arith)
-first_of_front f (x ∷ xs) zero d some full = absurd (omega arith)
-first_of_front f (x ∷ xs) (suc i) d some full = refl
 
 grown : {X : Type 0} (group : List X) (x : X) → 0 < length (group ++ x ∷ [])
 grown [] x = omega arith

@@ -2,7 +2,6 @@
 use Rattle.std.proofs.Common.{◌≡◌, ℕ, ◌^◌, true, false, List, [], ◌++◌, ap, sym, ◌∙◌, refl, arith, append_assoc, codes}
 use Rattle.std.specs.Fmt.{decimal}
 use Rattle.std.proofs.lemmas.List.{append_cancel_left}
-use Rattle.sched_time.specs.declared.policies.Which.{Which}
 use Rattle.sched_time.specs.declared.policies.Which.TheVariants as which
 use Rattle.executor_model.specs.declared.Kind.TheVariants as kind
 use Rattle.executor_model.specs.declared.Refusal.TheVariants as refusal
@@ -12,7 +11,7 @@ use Rattle.executor_model.specs.declared.Outcome.{Outcome}
 use Rattle.executor_model.specs.declared.Outcome.TheVariants as outcome
 use Rattle.trace_text.specs.Spelling.{kind_text, refusal_text, error_text, effect_text, whether_text, outcome_text, FitsOutcome}
 use Rattle.sched_time.specs.Policies.{policy_text, truth_text}
-use Rattle.trace_text.specs.Reading.{IsRead, IsUnread, Below, Any, text_then}
+use Rattle.trace_text.specs.Reading.{IsUnread, Below, Any, text_then}
 use Rattle.trace_text.proofs.Clashes.{clashes}
 use Rattle.trace_text.proofs.Parts.{IsOnce, number_once}
 
@@ -99,14 +98,6 @@ pub policy_once : IsOnce (text_then policy_text (codes " ")) Any
 policy_once v u s t p q h =
     let r = policy_word_once v u (codes " " ++ s) (codes " " ++ t) p q (sym (append_assoc (policy_text v) (codes " ") s) ∙ (h ∙ append_assoc (policy_text u) (codes " ") t)) in
     (r.0, append_cancel_left (codes " ") s t r.1)
-
--- no policy, and so none before a space
-pub unread_policy_word : (bytes : List ℕ) → IsUnread policy_text Any bytes → IsUnread (text_then policy_text (codes " ")) Any bytes
-unread_policy_word bytes never v tail f h = never v (codes " " ++ tail) f (h ∙ append_assoc (policy_text v) (codes " ") tail)
-
--- a policy, and no space behind it
-pub behind_policy_word : (bytes rest : List ℕ) (v : Which) → IsRead policy_text Any bytes v rest → ((tail : List ℕ) → rest ≡ codes " " ++ tail → ⊥) → IsUnread (text_then policy_text (codes " ")) Any bytes
-behind_policy_word bytes rest v front never u tail f h = never tail (policy_word_once v u rest (codes " " ++ tail) tt f (sym front.1 ∙ (h ∙ append_assoc (policy_text u) (codes " ") tail))).1
 
 -- what a policy is set to, before the newline
 pub truth_once : IsOnce (text_then truth_text (codes "\n")) Any

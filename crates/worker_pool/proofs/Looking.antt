@@ -17,7 +17,7 @@ use Rattle.executor_laws.specs.TaskWords.{word_after}
 use Rattle.worker_pool.specs.Books.{FitsWord}
 use Rattle.worker_pool.specs.Applies.{OnlyMarks, TellsUpTo}
 use Rattle.worker_pool.specs.own.Moves.{WasMet}
-use Rattle.worker_pool.specs.own.Steps.{Agrees, IsKept, past_in, OnlyOwnGrows}
+use Rattle.worker_pool.specs.own.Steps.{Agrees, IsKept, past_in}
 use Rattle.worker_pool.proofs.Bools.{and_none, and_true}
 
 looked_fits : (e w u : Parts) → FitsWord e u → MeetsEntry e w → (is_cancelled w ≡ true → is_cancelled u ≡ true) → FitsWord w u
@@ -106,14 +106,6 @@ looked_met m v happened lines k w kept low meets cancelled unknown =
       | inl same ↦ absurd (false≢true (sym fresh ∙ (ap is_cancelled (sym same) ∙ cancelled)))
       | inr same ↦ record { task = low; live = sym (and_true (is_live e.phase)) ∙ (ap is_cancelled (sym same) ∙ cancelled); fresh = fresh; now = ap (with_entry v k) same }
     ]
-
--- what the seat tells goes by its own lists alone
-tells_alike : (v next_v : CoreSeatView) (k : ℕ) (w : Parts) → next_v.own ≡ v.own → OnlyOwnGrows v next_v → CoreTells v k w → CoreTells next_v k w
-tells_alike v next_v k w own same tells =
-    subst (λ o. CoreTells (record { entries = next_v.entries; own = o; joined = next_v.joined; ranks = next_v.ranks; out = next_v.out }) k w) (sym own)
-    (subst (λ j. CoreTells (record { entries = next_v.entries; own = v.own; joined = j; ranks = next_v.ranks; out = next_v.out }) k w) (sym same.joined)
-    (subst (λ r. CoreTells (record { entries = next_v.entries; own = v.own; joined = v.joined; ranks = r; out = next_v.out }) k w) (sym same.ranks)
-    (subst (λ o. CoreTells (record { entries = next_v.entries; own = v.own; joined = v.joined; ranks = v.ranks; out = o }) k w) (sym same.out) (record { once = tells.once; alone = tells.alone; met = tells.met; still = tells.still }))))
 
 -- one word more was met, and is the entry
 pub tells_more : (v next_v : CoreSeatView) (k : ℕ) (w : Parts) → k < length v.entries → CoreTells v k w → next_v ≡ with_entry v k w → TellsUpTo v k → TellsUpTo next_v (k + 1)

@@ -1,5 +1,5 @@
 -- Lists of notes.
-use Rattle.std.proofs.Common.{◌≡◌, ℕ, zero, suc, ◌<◌, ◌≤◌, List, [], ◌∷◌, ◌++◌, length, Option, Some, None, refl, sym, ap, arith}
+use Rattle.std.proofs.Common.{◌≡◌, ℕ, zero, suc, ◌<◌, List, [], ◌∷◌, ◌++◌, length, Option, Some, None, refl, sym, ap, arith}
 use Rattle.std.proofs.lemmas.Bool.{false≢true}
 use Rattle.std.specs.Prelude.{slice_index_or, slice_set, replicate, IsSome, IfSome}
 use Rattle.once_cell.specs.declared.race.note.Note.{Note}
@@ -11,12 +11,6 @@ pub known_read : (notes : List (Note Verdict)) (k : ℕ) (d : Note Verdict) → 
 known_read [] k d low = absurd (omega (arith, low))
 known_read (n ∷ notes) zero d low = refl
 known_read (n ∷ notes) (suc k) d low = known_read notes k d (omega (arith, low))
-
--- nothing is known past the last note
-pub known_past : (notes : List (Note Verdict)) (k : ℕ) → length notes ≤ k → known_at notes k ≡ None
-known_past [] k high = refl
-known_past (n ∷ notes) zero high = absurd (omega (arith, high))
-known_past (n ∷ notes) (suc k) high = known_past notes k (omega (arith, high))
 
 -- where each note knows nothing, and so does one more
 pub nothing_more : (notes : List (Note Verdict)) (n : Note Verdict) → n.known ≡ None → ((k : ℕ) → known_at notes k ≡ None) → (k : ℕ) → known_at (notes ++ n ∷ []) k ≡ None

@@ -1,12 +1,11 @@
 -- What stays true of each state, and its due moments, whatever happens.
 -- All of it is this project's rule.
-use Rattle.std.specs.Prelude.{◌≡◌, ◌≢◌, ℕ, ◌<◌, ◌≤◌, true, false, List, Option, Some, slice_index_or}
+use Rattle.std.specs.Prelude.{◌≡◌, ◌≢◌, ℕ, ◌≤◌, true, false, List, Option, Some}
 use Rattle.sched_time.specs.declared.timing.Timing.TheVariants as t
 use Rattle.executor_model.specs.declared.task.Stage.TheVariants as ph
-use Rattle.executor_model.specs.declared.task.Task.{Task}
 use Rattle.queue_code.specs.Calls.{Planned, terms_of, due_at}
 use Rattle.executor_model.specs.View.{View}
-use Rattle.executor_model.specs.State.{State, vacant}
+use Rattle.executor_model.specs.State.{State}
 
 -- a busy worker's task runs, no two workers have one task, each task that runs is that of some worker, the due moment
 -- of a run that is under way was reached, a task whose run was dropped was cancelled, and a kept one was cancelled while it waited
@@ -29,8 +28,3 @@ IsDue calls v = (k : ℕ) → (last : Option ℕ) × ((v.fate k).due ≡ due_at 
 -- each task that was submitted has the timing of its terms
 abbrev pub TimingsAgree : List Planned → State → Type 0
 TimingsAgree calls s = (k : ℕ) → (s.tasks k).phase ≢ ph.Vacant → (s.tasks k).timing ≡ (terms_of calls k).timing
-
--- the run of each task has a number of at most `count`, and one under way a lower one
-pub record RunsBelow (count : ℕ) (tasks : List Task) : Type 0 where
-  pub all : (k : ℕ) → (slice_index_or tasks k vacant).run ≤ count
-  pub begun : (k : ℕ) → (slice_index_or tasks k vacant).phase ≡ ph.Running → (slice_index_or tasks k vacant).run < count

@@ -7,7 +7,6 @@ use Rattle.executor_model.specs.declared.types.Outcome.TheVariants as o
 use Rattle.task_table.specs.declared.seat.Seat.{Seat}
 use Rattle.task_table.specs.Seats.{task_in, slot_of, waits, is_waiting_in}
 use Rattle.task_table.specs.Tables.{TableView}
-use Rattle.task_table.specs.Ends.{ends_at_slot}
 use Rattle.task_table.specs.own.Formed.{IsFormed}
 
 -- the due moment and the number of a task, where it stands in the queue
@@ -42,10 +41,6 @@ is_again _ = false
 -- what a task that is cancelled has in the queue of kept tasks
 abbrev pub key_cancelled : Bool → Seat → Option (ℕ × ℕ)
 key_cancelled removes x = key_where (is_waiting_in x.phase && not removes) x
-
--- a queue once the tasks that a sweep of the table ends are taken out
-abbrev pub without_swept : TableView → (ℕ → Option (ℕ × ℕ)) → ℕ → Option (ℕ × ℕ)
-without_swept m entries i = if ends_at_slot m i then None else entries i
 
 -- what stays true of each table with its two queues: it is well formed, the queues hold what its slots say, and have room for each
 -- slot; each task may have an entry at its slot, and each run that is under way may be
