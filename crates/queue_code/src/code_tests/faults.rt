@@ -42,24 +42,23 @@ const END: Instr = Instr::EndLoop;
 
 const HALT: Instr = Instr::Halt;
 
+/// Whether instructions have this fault.
+fn has(alloc: Global, fault: CodeFault, instrs: &[Instr]) -> bool {
+    fault_of(alloc, instrs) == Some(fault)
+}
+
 /// Whether a call that makes no task has its faults, where it is made at 2^62, one later, and 6 nanoseconds.
 fn has_its_faults(alloc: Global, last: Instr, late: Instr, early: Instr) -> bool {
     let before = Instr::CancelFixed(6, 0);
     let here = Instr::CancelHere(6, 0);
-    for (list, fault) in [
-        ([last, HALT, HALT, HALT], CodeFault::NoHalt),
-        ([late, HALT, HALT, HALT], CodeFault::TooLarge),
-        ([CALL, early, HALT, HALT], CodeFault::Order),
-        ([TWICE, early, END, END], CodeFault::Unclosed),
-        ([TWICE, last, END, HALT], CodeFault::TooLarge),
-        ([early, before, HALT, HALT], CodeFault::BadTask),
-        ([TWICE, early, here, END], CodeFault::BadTask),
-    ] {
-        if fault_of(alloc, &list) != Some(fault) {
-            return false;
-        }
-    }
-    fault_of(alloc, &[last, HALT]).is_none()
+    has(alloc, CodeFault::NoHalt, &[last, HALT, HALT, HALT])
+        && has(alloc, CodeFault::TooLarge, &[late, HALT, HALT, HALT])
+        && has(alloc, CodeFault::Order, &[CALL, early, HALT, HALT])
+        && has(alloc, CodeFault::Unclosed, &[TWICE, early, END, END])
+        && has(alloc, CodeFault::TooLarge, &[TWICE, last, END, HALT])
+        && has(alloc, CodeFault::BadTask, &[early, before, HALT, HALT])
+        && has(alloc, CodeFault::BadTask, &[TWICE, early, here, END])
+        && fault_of(alloc, &[last, HALT]).is_none()
         && fault_of(alloc, &[TWICE, early, END, HALT]).is_none()
 }
 
