@@ -1,6 +1,5 @@
 pub use Rattle.sched_time.specs.Times
 pub use Rattle.sched_time.specs.Dues
-pub use Rattle.delay_queue.specs.Queues
 pub use Rattle.task_word.specs.Words
 pub use Rattle.queue_code.specs.Calls
 pub use Rattle.queue_code.specs.Codes

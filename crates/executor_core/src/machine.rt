@@ -70,7 +70,7 @@ impl<A: Allocator> Core<A> {
         if limit == 0 {
             return Err(CoreError::Limit);
         }
-        Core::with_tables(alloc, code, workers, limit).map_err(|_| CoreError::Memory)
+        Core::with_table(alloc, code, workers, limit).map_err(|_| CoreError::Memory)
     }
 
     /// The moment, 0 to 2^62 nanoseconds: the greatest of the accepted clocks and the calls made.
@@ -204,7 +204,7 @@ impl<A: Allocator> Core<A> {
     }
 
     /// A core with a table for the tasks of a code and this many workers.
-    fn with_tables(alloc: A, code: Code<A>, workers: u8, limit: u32) -> Result<Core<A>, AllocError>
+    fn with_table(alloc: A, code: Code<A>, workers: u8, limit: u32) -> Result<Core<A>, AllocError>
     where
         A: Copy,
         requires { IsWorkerCount workers }

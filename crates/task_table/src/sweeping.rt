@@ -36,7 +36,8 @@ impl<S: Slots, Q: TaskQueue, A: Allocator> Table<S, Q, A> {
         sort_by_number(ends);
     }
 
-    /// Ends the task in a slot, if a sweep under the policies and at the moment that the table has ends it, and says whether it did.
+    /// Ends the task in a slot of the table, if a sweep under the policies and at the moment that the table has ends it, and says
+    /// whether it did.
     ///
     /// Once it was called for each slot, the table is swept, as a call that sweeps leaves it.
     pub fn sweep_slot(&mut self, slot: u32) -> bool

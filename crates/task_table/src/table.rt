@@ -137,8 +137,8 @@ impl<S: Slots, Q: TaskQueue, A: Allocator> Table<S, Q, A> {
     ghost use Rattle.task_table.specs.Seats.{slot_of, IsNew};
     ghost use Rattle.task_table.specs.Changes.{admitted, at_moment};
 
-    /// A table of these slots, all of them empty, before anything happened. It has as many workers as `work` has entries, 1 to 64,
-    /// of which none has work.
+    /// A table of these slots, fewer than 2^32 and all of them empty, before anything happened. It has as many workers as `work`
+    /// has entries, 1 to 64, of which none has work.
     ///
     /// `queue` is for the tasks that wait, and `kept` for those that are kept: both are empty, and have room for each slot.
     pub fn with(slots: S, queue: Q, kept: Q, work: Vec<Option<u32>, A>) -> Table<S, Q, A>

@@ -2,7 +2,7 @@
 use Rattle.std.proofs.Common.{false, refl}
 use Rattle.queue_code.specs.Codes.{calls_of}
 use Rattle.executor_core.proofs.Opens.{opening_is, opening_core}
-use Rattle.executor_core.proofs.machine.Core.with_tables.Goals as goal
+use Rattle.executor_core.proofs.machine.Core.with_table.Goals as goal
 
 pub invariant_of-result : goal.invariant_of-result
 invariant_of-result g c =
