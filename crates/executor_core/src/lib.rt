@@ -49,8 +49,8 @@
 //! calls with a moment of at most its own are made, in their order, and then the clock is moved. A worker that
 //! starts gets the first task that is due, or is idle. A task with one run is done with its value; one at a fixed
 //! rate, or with a fixed delay, waits for its next run. A run that fails is the last one of its task. A cancelled
-//! task that waits starts no more, and stays in the queue until a sweep, or a start at or after its due moment that gets no
-//! task before it, unless the remove policy is true; one whose run is under way runs on to the end, and its outcome is dropped.
+//! task that waits starts no more, and stays in the queue until a sweep, or a start at or after its due moment that is not
+//! refused and gets no task before it, unless the remove policy is true; one whose run is under way runs on to the end, and its outcome is dropped.
 //! [`words`](Core::words) shows how far each task has come.
 //!
 //! After a shutdown no task is accepted. The first shutdown ends, a line for each, the tasks that its policies say, as
@@ -85,11 +85,11 @@
 //! calls take no memory. `event` takes memory for lines alone, and none where the list has room for one line, one for
 //! each call that is left and one for each task that is not cancelled. A clock costs what the calls that it reaches
 //! cost; a submission, a start, a finish and a cancel cost what the queue of waiting tasks does
-//! (see [`DelayQueue`](delay_queue::DelayQueue)), and a start also what the kept tasks that leave cost. Setting a policy
-//! that does not sweep costs the same whatever it holds, and asking how far the executor is a look at each worker. A sweep goes over all
-//! tasks where there may be one that it ends: at a shutdown at once where a task waits, where periodic tasks do not go on and one
-//! of them waits, and the first time that delayed tasks are not executed. Each other sweep costs nothing but the kept tasks that
-//! leave.
+//! (see [`PlanQueue`](plan_table::PlanQueue)), and a start also what the kept tasks that leave cost. Setting a policy
+//! that does not sweep costs the same whatever it holds, and asking how far the executor is a look at each worker. A sweep
+//! goes over all tasks where there may be one that it ends: at a shutdown at once where a task waits, where periodic tasks do
+//! not go on and one of them waits, and the first time that delayed tasks are not executed. Each other sweep costs nothing
+//! but the kept tasks that leave.
 //!
 //! # Tests
 //!

@@ -111,9 +111,9 @@ impl<A: Allocator> Core<A> {
     /// The lines of the answers are added to `out`, the oldest first. The answer is
     /// [`CoreError::Full`] exactly when as many events were taken as the limit allows. It is
     /// [`CoreError::Memory`] where `out` cannot grow. That does not come, and `out` keeps its capacity,
-    /// where `out` has `room_of` lines free: one, one for each call that is left, and one for each task
+    /// where `out` has [`room`](Core::room) for the lines: one, one for each call that is left, and one for each task
     /// that is not cancelled. Both errors leave the core and `out` as they were, and the event may
-    /// be given again. `out` never loses capacity, and `room_of` never grows: a list that once had room for the lines of an
+    /// be given again. `out` never loses capacity, and `room` never grows: a list that once had room for the lines of an
     /// event has it for those of each later one, once it is cleared.
     ///
     /// An event that is answered by [`Answer::Error`] changes nothing but the number of events taken.
@@ -146,6 +146,7 @@ impl<A: Allocator> Core<A> {
             → vec_capacity out.new ≡ vec_capacity out.old }
         ensures keeps { vec_capacity out.old ≤ vec_capacity out.new }
         ensures shrinks { room_of self.new ≤ room_of self.old }
+        ensures few { vec_len out.new ≤ vec_len out.old + room_of self.old }
         ensures refused { OnErr result
             ((self.new ≡ self.old) × (out.new.items ≡ out.old.items)
             × (vec_capacity out.new ≡ vec_capacity out.old)) }

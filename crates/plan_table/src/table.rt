@@ -1,5 +1,6 @@
 //! The table of a plan's tasks.
-ghost use Rattle.std.specs.Prelude.{◌≡◌, [], length, replicate, None, IfOk};
+ghost use Rattle.std.specs.Prelude.{◌≡◌, List, [], length, replicate, None, IfOk};
+ghost use Rattle.queue_code.specs.Calls.{Planned, IsOrderly};
 ghost use Rattle.executor_model.specs.Counts.{IsWorkerCount};
 ghost use Rattle.task_table.specs.Tables.{workers_of, Stands};
 
@@ -26,6 +27,8 @@ pub fn plan_table<A: Allocator + Copy>(
     ensures slots { IfOk result (λ table. table.slots ≡ replicate tasks None) }
     ensures workers { IfOk result (λ table. workers_of table ≡ workers) }
     ensures stands { IfOk result (λ table. Stands table [] []) }
+    ensures opening { IfOk result
+        (λ table. (calls : List Planned) → IsOrderly calls → Stands table calls []) }
 {
     let slots = Tasks::new(alloc, tasks)?;
     let queue = PlanQueue::new(alloc, tasks)?;

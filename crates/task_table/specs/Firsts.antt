@@ -41,6 +41,15 @@ is_met now (Some first) x = nat_le x.due now && comes_before x.due x.number firs
 abbrev pub MeetsNone : TableView → Option Seat → Type 0
 MeetsNone m first = (i : ℕ) (x : Seat) → slot_of m.slots i ≡ Some x → x.kept ≡ true → is_met m.moment first x ≡ false
 
+-- the task in a slot is kept, and the next start meets it
+pub record IsMetAt (m : TableView) (slot : ℕ) : Type 0 where
+  pub task : Seat
+  pub there : slot_of m.slots slot ≡ Some task
+  pub kept : task.kept ≡ true
+  pub first : Option Seat
+  pub is : FirstIs m first
+  pub met : is_met m.moment first task ≡ true
+
 -- a start meets no kept task, whichever it gets
 abbrev pub NoneMet : TableView → Type 0
 NoneMet m = (first : Option Seat) → FirstIs m first → MeetsNone m first

@@ -15,7 +15,7 @@ use std::alloc::Allocator;
 impl<S: Slots, Q: TaskQueue, A: Allocator> Table<S, Q, A> {
     ghost use Rattle.task_table.specs.Tables.{StandsBefore, IsNextCall};
     ghost use Rattle.task_table.specs.Seats.{slot_of};
-    ghost use Rattle.task_table.specs.Firsts.{NoneMet, NoneKept};
+    ghost use Rattle.task_table.specs.Firsts.{IsMetAt, NoneMet, NoneKept};
     ghost use Rattle.task_table.specs.Ends.{sweeps_at};
     ghost use Rattle.task_table.specs.Runs.{IsFree, Drops};
     ghost use Rattle.task_table.specs.own.Formed.{IsFormed};
@@ -28,6 +28,7 @@ impl<S: Slots, Q: TaskQueue, A: Allocator> Table<S, Q, A> {
     #[inline(always)]
     pub fn drop_met(&mut self) -> Option<u32>
         ensures dropped { IfSome result (λ slot. Drops self.old self.new slot) }
+        ensures met { IfSome result (λ slot. IsMetAt self.old slot) }
         ensures steps { IfSome result
             (λ _. (worker : ℕ) → IsFree self.old worker
             → (calls : List Planned) (past : List HistoryEntry)

@@ -43,13 +43,17 @@
 //!
 //! Two of these calls can be made in steps. One above that writes down who ends as it goes sets the policy, or what says that the
 //! executor is shut, alone, by [`set`](Table::set), [`shut_at`](Table::shut_at) or [`stop_at`](Table::stop_at), and then sweeps
-//! slot by slot, by [`sweep_slot`](Table::sweep_slot). One that has to know first what a finish comes to asks
+//! slot by slot, by [`sweep_slot`](Table::sweep_slot): these four have the first kind of clauses alone. One that has to know first what a finish comes to asks
 //! [`end_of`](Table::end_of), and makes it so by [`end_as`](Table::end_as).
 //!
 //! # Moments
 //!
 //! A moment is a number of nanoseconds, at most 2^62, and a due moment at most 2^63. The table reads no clock: it is told each
 //! moment, and none goes back.
+//!
+//! The clauses of steps speak of histories that go on so: the tasks have the numbers 0, 1, .. in the order of their submission, and
+//! a call is made after each clock that was accepted and is below its moment. Of a call that comes otherwise the first clauses
+//! alone say what it does.
 //!
 //! # Errors
 //!

@@ -1,6 +1,6 @@
 //! The table, and what comes into its slots and leaves them.
 ghost use Rattle.std.specs.Prelude.{◌≡◌, ℕ, ◌<◌, ◌≤◌, ◌+◌, ◌^◌, true, false, List, [], length, replicate, Some, None, IsOk, IfOk, OnOk, OnErr};
-ghost use Rattle.queue_code.specs.Calls.{Planned, IsTimed};
+ghost use Rattle.queue_code.specs.Calls.{Planned, IsOrderly, IsTimed};
 ghost use Rattle.queue_code.specs.declared.call.CodeCall.TheVariants as call;
 ghost use Rattle.sched_time.specs.Times.{longest};
 ghost use Rattle.sched_time.specs.declared.timing.Timing as timings;
@@ -72,6 +72,8 @@ impl<A: Allocator> TaskTable<A> {
         ensures workers { IfOk result (λ table. workers_of table ≡ workers) }
         ensures empty { IfOk result (λ table. table.slots ≡ []) }
         ensures stands { IfOk result (λ table. Stands table [] []) }
+        ensures opening { IfOk result
+            (λ table. (calls : List Planned) → IsOrderly calls → Stands table calls []) }
     {
         let mut work = Vec::with_capacity(alloc, workers as usize)?;
         work.resize(workers as usize, None)?;
@@ -153,6 +155,7 @@ impl<S: Slots, Q: TaskQueue, A: Allocator> Table<S, Q, A> {
         ensures slots { result.slots ≡ S.seats slots }
         ensures work { result.work ≡ work.items }
         ensures stands { Stands result [] [] }
+        ensures opening { (calls : List Planned) → IsOrderly calls → Stands result calls [] }
     {
         Table {
             moment: 0,

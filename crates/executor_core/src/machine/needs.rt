@@ -157,7 +157,7 @@ impl<A: Allocator> Core<A> {
 
 /// The word moves of the end of a run, where one ends.
 #[inline(always)]
-pub fn need_of_end(end: Option<RunEnd>) -> Need
+pub(super) fn need_of_end(end: Option<RunEnd>) -> Need
     ensures { result ≡ need_of_end end }
 {
     match end {

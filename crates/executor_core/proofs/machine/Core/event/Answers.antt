@@ -22,6 +22,7 @@ loop-self-init g c =
       counted = c.count.ensures.runs;
       capacity = refl;
       room = subst (λ (m : CoreView). vec_len c.make_room.new.list + room_of m ≤ vec_capacity c.make_room.new.list) (sym c.count.ensures.same) fits;
+      few = omega arith;
       shrinks = subst (λ (m : CoreView). room_of m ≤ room_of old) (sym c.count.ensures.same) (search rules);
       steps = (
         [],
@@ -43,6 +44,7 @@ loop-self-preserved g c =
       counted = did.counted refl kept.counted;
       capacity = did.capacity ∙ kept.capacity;
       room = omega (arith, kept.room, (did.call refl).lines, did.capacity);
+      few = omega (arith, kept.few, (did.call refl).lines);
       shrinks = omega (arith, kept.shrinks, did.leaves.room);
       steps = (
         h.Call ∷ hs,

@@ -12,6 +12,7 @@ invariant-loop-self g l = record {
   counted : IsCounted l.self;
   capacity : vec_capacity l.out ≡ vec_capacity l.initial.out;
   room : vec_len l.out + room_of l.self ≤ vec_capacity l.out;
+  few : vec_len l.out + room_of l.self ≤ vec_len l.initial.out + room_of l.initial.self;
   shrinks : room_of l.self ≤ room_of l.fn.self;
   steps : (hs : List Happening) × Steps l.fn.self l.self l.fn.out.items l.out.items hs × (part_from l.fn.self l.fn.event ≡ part_from l.self l.fn.event ++ hs);
 }

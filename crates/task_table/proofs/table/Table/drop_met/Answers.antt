@@ -14,6 +14,12 @@ returns-then-met-clause-dropped g k =
     let head = k.in_ok-entry.ensures.first in
     drops k.args.self.now k.drop_at.new.self e.slot e.due e.number k.first_kept.ensures.formed head (k.drop_at.ensures.dropped head.task head.there)
 
+pub returns-then-met-clause-met : goal.returns-then-met-clause-met
+returns-then-met-clause-met g k =
+    let head = k.in_ok-entry.ensures.first in
+    let met = k.meets-met.ensures in
+    record { task = head.task; there = head.there; kept = head.kept; first = met.first; is = met.is; met = sym (met.told head.task head.dues head.named) ∙ k.if-met.true }
+
 pub returns-then-met-clause-steps : goal.returns-then-met-clause-steps
 returns-then-met-clause-steps g k = λ worker free calls past before.
     let n = k.args.self.now in
