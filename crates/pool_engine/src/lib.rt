@@ -64,8 +64,8 @@
 //! # Tests
 //!
 //! They stand in `src/tests.rt` and `src/tests`: answers and texts of runs by one worker, runs by many, whose texts go through
-//! [`check`](trace_check::check), and ends that follow a script, of the crate `scripted_ends`. `plan_read` and `rows` are for tests alone,
-//! and `trace_check` for them and for the law [`pool_runs_conform`].
+//! [`check`](trace_check::check), and ends that follow a script, of the crate `scripted_ends`. `plan_read` and `rows` are for
+//! tests alone, and `trace_check` for them and for the law [`pool_runs_conform`].
 #![tactic(auto)]
 
 mod clocks;

@@ -106,8 +106,8 @@
 //! of steps over one plan, beside the plain program; the text of the lines of each goes through
 //! [`check`](trace_check::check), which knows nothing of the book, and conforms. `pool` has rows of calls of a pool, what is
 //! answered to another thread while a job is run, and races of workers with handles and a clock, 200 rounds each, whose traces
-//! go through `check` too; a thread beside each test fails it when it takes too long. `refusing_allocator`, `rows`, `plan_read`,
-//! `plan_compile`, `executor_plain`, `trace_text` and `trace_check` are for tests alone.
+//! go through `check` too; a thread beside each test fails it when it takes too long. `refusing_allocator`, `rows`,
+//! `plan_read`, `plan_compile`, `executor_plain`, `trace_text` and `trace_check` are for tests alone.
 #![tactic(auto)]
 
 mod applied;
