@@ -42,24 +42,30 @@ const END: Instr = Instr::EndLoop;
 
 const HALT: Instr = Instr::Halt;
 
-/// Whether instructions have this fault.
-fn has(alloc: Global, fault: CodeFault, instrs: &[Instr]) -> bool {
-    fault_of(alloc, instrs) == Some(fault)
-}
+/// A cancel of a task that was not made before.
+const BEFORE: Instr = Instr::CancelFixed(6, 0);
+
+/// The same of a task of the iteration.
+const HERE: Instr = Instr::CancelHere(6, 0);
 
 /// Whether a call that makes no task has its faults, where it is made at 2^62, one later, and 6 nanoseconds.
-fn has_its_faults(alloc: Global, last: Instr, late: Instr, early: Instr) -> bool {
-    let before = Instr::CancelFixed(6, 0);
-    let here = Instr::CancelHere(6, 0);
-    has(alloc, CodeFault::NoHalt, &[last, HALT, HALT, HALT])
-        && has(alloc, CodeFault::TooLarge, &[late, HALT, HALT, HALT])
-        && has(alloc, CodeFault::Order, &[CALL, early, HALT, HALT])
-        && has(alloc, CodeFault::Unclosed, &[TWICE, early, END, END])
-        && has(alloc, CodeFault::TooLarge, &[TWICE, last, END, HALT])
-        && has(alloc, CodeFault::BadTask, &[early, before, HALT, HALT])
-        && has(alloc, CodeFault::BadTask, &[TWICE, early, here, END])
-        && fault_of(alloc, &[last, HALT]).is_none()
-        && fault_of(alloc, &[TWICE, early, END, HALT]).is_none()
+fn has_its_faults(alloc: Global, last: &Instr, late: &Instr, early: &Instr) -> bool {
+    let lists = [
+        ([*last, HALT, HALT, HALT], CodeFault::NoHalt),
+        ([*late, HALT, HALT, HALT], CodeFault::TooLarge),
+        ([CALL, *early, HALT, HALT], CodeFault::Order),
+        ([TWICE, *early, END, END], CodeFault::Unclosed),
+        ([TWICE, *last, END, HALT], CodeFault::TooLarge),
+        ([*early, BEFORE, HALT, HALT], CodeFault::BadTask),
+        ([TWICE, *early, HERE, END], CodeFault::BadTask),
+    ];
+    for (list, fault) in &lists {
+        if fault_of(alloc, list) != Some(*fault) {
+            return false;
+        }
+    }
+    fault_of(alloc, &[*last, HALT]).is_none()
+        && fault_of(alloc, &[TWICE, *early, END, HALT]).is_none()
 }
 
 /// A call at 2^62 nanoseconds, the same one later, and at 6.
@@ -81,7 +87,7 @@ fn policies_shutdowns_and_questions_have_their_faults(rt: HostRuntime) -> Result
         ("shutdown at once", moments!(ShutdownNow)),
         ("question", moments!(Ask)),
     ] {
-        assert!(rt; has_its_faults(rt.alloc(), last, late, early), "{name}");
+        assert!(rt; has_its_faults(rt.alloc(), &last, &late, &early), "{name}");
     }
     Ok(())
 }
