@@ -21,6 +21,7 @@ $ sched live --workers 1
 > 6 submit 1 rate due 6⏎6 clock⏎6 finish 0 task 0 run 0 done 7⏎6 start 0 task 1 run 0 due 6
 > 7 cancel 1 yes
 $ sched live --workers 1
+
 $ sched live --workers=3
 < start 2⏎start 3⏎call ask
 > 0 start 2 idle⏎0 error no worker⏎0 ask queue 0 running 0 shutdown no terminated no

@@ -39,6 +39,7 @@ $ sched pool --workers=1 plan.toml
 > 0 submit 0 schedule due 5⏎0 clock
 > 5 clock⏎5 start 0 task 0 run 0 due 5⏎5 finish 0 task 0 run 0 done 0
 $ sched pool plan.toml --workers 1 --limit 4
+
 $ sched pool plan.toml --workers 1 --limit 4
 < clock 0⏎clock 4⏎clock 5
 > 0 submit 0 schedule due 5⏎0 clock
