@@ -39,6 +39,11 @@ impl<A: Allocator> Slots for Tasks<A> {
     }
 
     #[inline(always)]
+    fn held(&self, slot: u32) -> Seat {
+        seat_of(u64::from(slot), self.task(slot as usize))
+    }
+
+    #[inline(always)]
     fn admit(&mut self, slot: u32, _number: u64, timing: Timing, due: u64) {
         self.submit(slot as usize, timing, due);
     }

@@ -81,6 +81,13 @@ impl<A: Allocator> Slots for Seats<A> {
         }
     }
 
+    fn held(&self, slot: u32) -> Seat {
+        match self.get(slot) {
+            Some(seat) => seat,
+            None => unreachable!(),
+        }
+    }
+
     #[inline(always)]
     fn admit(&mut self, slot: u32, number: u64, timing: Timing, due: u64) {
         self.slots[slot as usize] = Some(Seat {

@@ -32,6 +32,11 @@ pub trait Slots {
     fn get(&self, slot: u32) -> Option<Seat>
         ensures { result ≡ slot_of (seats self.now) slot };
 
+    /// What a slot holds that is not empty.
+    fn held(&self, slot: u32) -> Seat
+        requires { (x : Seat) × (slot_of (seats self.now) slot ≡ Some x) }
+        ensures { slot_of (seats self.now) slot ≡ Some result };
+
     /// A task comes into an empty slot: it waits for its first run, which is due at this moment, in nanoseconds, at most 2^63.
     fn admit(&mut self, slot: u32, number: u64, timing: Timing, due: u64)
         requires within { slot < length (seats self.old) }

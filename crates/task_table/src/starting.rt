@@ -129,24 +129,31 @@ impl<S: Slots, Q: TaskQueue, A: Allocator> Table<S, Q, A> {
     {
         match self.start_error(worker) {
             Some(error) => Err(StartError::Refused(error)),
-            None => match self.first_due() {
-                Some(first) => self.start_first(worker, first.slot),
-                None => Ok(None),
-            },
+            None => self.start_free(worker),
         }
     }
 
-    /// A worker that has no work begins a run of the first task that is due, in this slot.
+    /// A worker that has no work asks for it, which is a [`start`](Table::start) that is not refused: it begins a run of the first
+    /// task that is due, or none, where none is.
+    ///
+    /// The kept tasks that it meets were dropped before, as [`drop_met`](Table::drop_met) tells.
+    ///
+    /// # Errors
+    ///
+    /// [`StartError::Full`] where the first task that is due has had 2^64 - 1 runs. The table is then as it was.
     #[inline(always)]
-    fn start_first(&mut self, worker: u8, slot: u32) -> Result<Option<Begun>, StartError>
+    pub fn start_free(&mut self, worker: u8) -> Result<Option<Begun>, StartError>
         requires free { IsFree self.old worker }
         requires met { NoneMet self.old }
         requires runs { MayRun S.may_run self.old }
-        requires first { (x : seats.Seat) × IsFirstDue self.old slot x }
         ensures started { IfOk result (λ begun. Starts self.old self.new worker begun) }
         ensures unchanged { OnErr result (self.new ≡ self.old) }
         ensures failed { IfErr result (λ error. FailsStart self.old worker error) }
     {
+        let Some(first) = self.first_due() else {
+            return Ok(None);
+        };
+        let slot = first.slot;
         let seat = self.held(slot);
         if seat.run == u64::MAX {
             return Err(StartError::Full);
@@ -165,10 +172,7 @@ impl<S: Slots, Q: TaskQueue, A: Allocator> Table<S, Q, A> {
         ensures held { slot_of self.now.slots slot ≡ Some result }
         ensures formed { IsFormed self.now }
     {
-        match self.slots.get(slot) {
-            Some(seat) => seat,
-            None => unreachable!(),
-        }
+        self.slots.held(slot)
     }
 
     /// A worker that has no work runs the first task that is due.

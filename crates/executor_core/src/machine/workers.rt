@@ -61,7 +61,7 @@ impl<A: Allocator> Core<A> {
             return Answer::Error(error);
         }
         drop_met(&mut self.table);
-        let Ok(begun) = self.table.start(worker) else {
+        let Ok(begun) = self.table.start_free(worker) else {
             unreachable!()
         };
         let Some(begun) = begun else {
@@ -119,10 +119,10 @@ impl<A: Allocator> Core<A> {
         ensures step { Takes self.old self.new (happening.Finish worker ending) result }
         ensures size { length self.new.tasks ≡ length self.old.tasks }
     {
-        if worker as usize >= self.table.workers() {
-            return Answer::Error(EventError::NoWorker);
-        }
         let Some(end) = end else {
+            if worker as usize >= self.table.workers() {
+                return Answer::Error(EventError::NoWorker);
+            }
             return Answer::Error(EventError::NotRunning);
         };
         self.table.end_as(worker, table_end(end));
