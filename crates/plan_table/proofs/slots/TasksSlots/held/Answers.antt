@@ -1,4 +1,4 @@
-use Rattle.std.proofs.Common.{Some, ap, sym, subst, ◌∙◌}
+use Rattle.std.proofs.Common.{Some, ap, sym, ◌∙◌}
 use Rattle.plan_table.specs.Numbered.{seat_of}
 use Rattle.plan_table.proofs.Numbered.{held_there, slot_within}
 use Rattle.plan_table.proofs.slots.TasksSlots.held.Goals as goal
