@@ -4,7 +4,7 @@ ghost use Rattle.std.specs.Prelude.{◌≡◌, ◌≤◌, ◌↔◌, IfOk, IsErr
 ghost use Rattle.executor_model.specs.Counts.{IsWorkerCount};
 ghost use Rattle.sched.specs.EndCounts.{CountsOutput};
 ghost use Rattle.sched.specs.Errors.{status_of as fault_status};
-ghost use Rattle.sched.specs.Findings.{IsCheckedAsAsked, IsFindingTold, finding_text, finding_status};
+ghost use Rattle.sched.specs.Findings.{IsCheckedAsAsked, IsFindingTold, finding_text};
 ghost use Rattle.trace_check.specs.Standing.{most_bytes};
 
 use crate::error::ProgramError;
@@ -58,7 +58,10 @@ pub fn tell_finding<A: Allocator, W: Sink>(
     if !write_text(writer, line.as_bytes()) {
         return Err(ProgramError::Run(RunError::Write));
     }
-    Ok(status_of(finding))
+    match finding {
+        Finding::Conforms => Ok(0),
+        Finding::Breaks(_) => Ok(1),
+    }
 }
 
 /// The line that tells a finding, with its newline.
@@ -68,15 +71,5 @@ fn line_of<A: Allocator>(alloc: A, finding: Finding) -> Result<String<A>, AllocE
     match finding {
         Finding::Conforms => String::from_str(alloc, "conforms\n"),
         Finding::Breaks(line) => format!(in alloc; "breaks {line}\n"),
-    }
-}
-
-/// The exit status that tells a finding.
-fn status_of(finding: Finding) -> u8
-    ensures { result ≡ finding_status finding }
-{
-    match finding {
-        Finding::Conforms => 0,
-        Finding::Breaks(_) => 1,
     }
 }

@@ -1,3 +1,3 @@
 pub mod AsBox
 pub mod Each
-pub mod Spelled
+pub mod Behind

@@ -1,6 +1,8 @@
 pub use Rattle.executor_model.specs.Answers
 pub use Rattle.executor_model.specs.Flows
 pub use Rattle.line_copy.specs.Copying
+pub use Rattle.call_lines.specs.Lasts
+pub use Rattle.call_lines.specs.Narrow
 pub use Rattle.task_table.specs.Firsts
 pub use Rattle.live_core.specs.Cancels
 pub use Rattle.live_core.specs.Lives

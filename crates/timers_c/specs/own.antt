@@ -1,5 +1,4 @@
 -- What no public clause of this crate, or of those above it, leads to: means of its own contracts and proofs.
 pub mod Kept
-pub mod Lasts
 pub mod Submissions
 pub mod Told

@@ -24,7 +24,7 @@
 //!
 //! Each call is one of `timers`, and its contract says of it the same, whatever calls and history led here (`specs/Calls.antt`).
 //! A contract sees a session as [`Seen`](../../specs/Seen.antt): the timers, and the lines that a trace has of the last call that was
-//! taken. These lines take no memory: a session notes the moment that the clock showed and the answer, and the timers have the tasks
+//! taken. These lines take no memory (`call_lines`): a session notes the moment that the clock showed and the answer, and the timers have the tasks
 //! that the call ended. `timers_ref_text` makes them one at a time, and copies their text into the caller's buffer
 //! (`specs/Texts.antt`). `timers_ref_poll_many` and `timers_ref_finish_many` do what the same calls one by one do, as far as they say
 //! that they came (`specs/Many.antt`).
@@ -48,15 +48,12 @@
 
 mod exports;
 mod held;
-mod last;
 mod life;
-mod lines;
 mod many;
 mod reading;
 mod refs;
 mod running;
 mod runs;
-mod said;
 mod session;
 mod shutting;
 mod slot;

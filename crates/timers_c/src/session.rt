@@ -3,14 +3,12 @@ ghost use Rattle.std.specs.Prelude.{◌≡◌, ◌<◌, ◌≤◌, true, length,
 ghost use Rattle.live_core.specs.declared.error.CallError.TheVariants as call_error;
 ghost use Rattle.live_core.specs.Said.{IsMakeError};
 ghost use Rattle.timers.specs.Calls.{IsFinishError};
-ghost use Rattle.timers_c.specs.Texts as texts;
+ghost use Rattle.call_lines.specs.Narrow as narrow;
 ghost use Rattle.timers_c.specs.own.Told.{IsToldAs};
 
-use crate::last::Last;
-use crate::lines::{all_spelled, line_at, line_count};
 use crate::refs::{Gone, Ref};
-use crate::said::Said;
 use crate::submission::Submission;
+use call_lines::{Last, Said, all_spelled, line_at, line_count};
 use executor_model::{CancelEffect, Line};
 use live_core::{Asked, CallError, MakeError, Submitted, TaskRef};
 use sched_time::{Ending, Which};
@@ -30,7 +28,7 @@ impl Model for Session {
     ghost use Rattle.executor_model.specs.Counts.{most_workers};
     ghost use Rattle.task_table.specs.Tables.{workers_of};
     ghost use Rattle.timers_c.specs.Seen.{Seen};
-    ghost use Rattle.timers_c.specs.own.Lasts.{lines_of_last};
+    ghost use Rattle.call_lines.specs.Lasts.{lines_of_last};
 
     ghost Value = { Seen };
 
@@ -261,14 +259,14 @@ impl Session {
 
     /// Whether the lines of the last call have room for each number.
     pub fn are_spelled(&self) -> bool
-        ensures { result ≡ texts.are_spelled self.now.lines }
+        ensures { result ≡ narrow.are_spelled self.now.lines }
     {
         all_spelled(self.last, self.timers.now(), self.timers.ended())
     }
 
     /// The line at a place, from 0 on, of those of the last call, and `None` behind the last one.
     pub fn line(&self, place: usize) -> Option<Line>
-        requires { texts.are_spelled self.now.lines ≡ true }
+        requires { narrow.are_spelled self.now.lines ≡ true }
         ensures { result ≡ slice_get self.now.lines place }
     {
         line_at(self.last, self.timers.now(), self.timers.ended(), place)

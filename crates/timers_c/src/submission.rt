@@ -6,10 +6,10 @@ ghost use Rattle.live_core.specs.Said.{submit_reply};
 ghost use Rattle.timers.specs.Calls as calls;
 ghost use Rattle.timers.specs.Timers.{Gives};
 ghost use Rattle.timers_c.specs.Calls.{IsLegal, IsRefused};
-ghost use Rattle.timers_c.specs.own.Lasts.{answer_of};
+ghost use Rattle.call_lines.specs.Lasts.{answer_of};
 ghost use Rattle.timers_c.specs.own.Submissions.{first_of, timing_of};
 
-use crate::said::Said;
+use call_lines::Said;
 use executor_model::Kind;
 use live_core::{CallError, Submitted};
 use std::alloc::Global;

@@ -2,7 +2,8 @@
 ghost use Rattle.std.specs.Prelude.{◌≡◌, true, drop};
 ghost use Rattle.line_copy.specs.Copying.{IsCopied};
 ghost use Rattle.timers_c.specs.Calls.{holding};
-ghost use Rattle.timers_c.specs.Texts.{are_spelled, Copies};
+ghost use Rattle.call_lines.specs.Narrow.{are_spelled};
+ghost use Rattle.timers_c.specs.Texts.{Copies};
 
 use crate::session::Session;
 use crate::slot::Slot;

@@ -65,7 +65,11 @@ pub fn put_effect(buffer: &mut [u8], at: usize, task: u32, effect: CancelEffect)
     ensures put { Puts (take at buffer.old) (take result buffer.new) (cancel_text (task, effect)) }
 {
     let at = put_number(buffer, at, task as u64);
-    put_effect_text(buffer, at, effect)
+    match effect {
+        CancelEffect::Yes => put_text(buffer, at, *b" yes\n"),
+        CancelEffect::No => put_text(buffer, at, *b" no\n"),
+        CancelEffect::Absent => put_text(buffer, at, *b" none\n"),
+    }
 }
 
 /// Puts a policy, and what it was set to.
@@ -303,21 +307,6 @@ fn put_refusal(buffer: &mut [u8], at: usize, refusal: Refusal) -> usize
     match refusal {
         Refusal::Illegal => put_text(buffer, at, *b"illegal"),
         Refusal::Rejected => put_text(buffer, at, *b"rejected"),
-    }
-}
-
-/// Puts what a cancel did, in a word, with the space before it and the newline.
-#[inline(always)]
-fn put_effect_text(buffer: &mut [u8], at: usize, effect: CancelEffect) -> usize
-    requires { at + 10 ≤ length buffer.old }
-    ensures end { result ≤ at + 10 }
-    ensures put { Puts (take at buffer.old) (take result buffer.new)
-        (codes " " ++ (effect_text effect ++ codes "\n")) }
-{
-    match effect {
-        CancelEffect::Yes => put_text(buffer, at, *b" yes\n"),
-        CancelEffect::No => put_text(buffer, at, *b" no\n"),
-        CancelEffect::Absent => put_text(buffer, at, *b" none\n"),
     }
 }
 

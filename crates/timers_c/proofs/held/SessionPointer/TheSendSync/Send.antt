@@ -15,7 +15,7 @@ use Rattle.std.specs.contracts.alloc.Global as heap_type
 use Rattle.std.specs.contracts.impls.GlobalAllocator.TheImpl.{ghosts}
 use Rattle.std_alloc.proofs.SendSync.{quiet, lies}
 use Rattle.timers.proofs.timers.Timers.TheSendSync.{the_send as timers_send}
-use Rattle.timers_c.proofs.last.Last.TheSendSync.{the_field_send as last_sends}
+use Rattle.call_lines.proofs.last.Last.TheSendSync.{the_field_send as last_sends}
 use Rattle.timers_c.specs.Seen.{Seen}
 use Rattle.timers_c.specs.contracts.session.Session.TheInside as inside
 use Rattle.timers_c.specs.Slots.{SessionRow, holds_session}

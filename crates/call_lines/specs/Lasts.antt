@@ -1,4 +1,4 @@
--- The lines of the last call, by what a session notes of it. (This project's rule.)
+-- The lines of the last call, by what a caller notes of it. (This project's rule.)
 use Rattle.std.specs.Prelude.{ℕ, List, [], ◌++◌}
 use Rattle.executor_model.specs.declared.types.Answer.{Answer}
 use Rattle.executor_model.specs.declared.types.Answer.TheVariants as a
@@ -9,10 +9,10 @@ use Rattle.executor_model.specs.Flows.{lines_at}
 use Rattle.task_table.specs.declared.seat.TaskRef.{TaskRef}
 use Rattle.live_core.specs.Said.{ending}
 use Rattle.live_core.specs.Shutting.{shutdown_answer}
-use Rattle.timers_c.specs.declared.last.Last.{Last}
-use Rattle.timers_c.specs.declared.last.Last.TheVariants as last
-use Rattle.timers_c.specs.declared.said.Said.{Said}
-use Rattle.timers_c.specs.declared.said.Said.TheVariants as said
+use Rattle.call_lines.specs.declared.last.Last.{Last}
+use Rattle.call_lines.specs.declared.last.Last.TheVariants as last
+use Rattle.call_lines.specs.declared.said.Said.{Said}
+use Rattle.call_lines.specs.declared.said.Said.TheVariants as said
 
 -- what a call was answered, as the lines of a trace have it
 abbrev pub answer_of : Said → Answer

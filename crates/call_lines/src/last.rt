@@ -1,9 +1,9 @@
-//! What a session notes of the last call, to tell its lines.
+//! What is noted of the last call, to tell its lines.
 use crate::said::Said;
 
 /// The last call that was taken. The line of an answer, and those of the tasks that the call ended, are said at the moment that it is
 /// now, which no other call changes.
-#[derive(Clone, Copy, Debug, PartialEq, Eq)]
+#[derive(Clone, Copy, Debug)]
 pub enum Last {
     /// No call was made.
     Nothing,

@@ -3,7 +3,7 @@ ghost use Rattle.std.specs.Prelude.{◌≡◌};
 ghost use Rattle.executor_model.specs.declared.types.Answer.TheVariants as a;
 ghost use Rattle.executor_model.specs.Answers.{bare};
 ghost use Rattle.timers.specs.Calls.{run_reply};
-ghost use Rattle.timers_c.specs.own.Lasts.{answer_of};
+ghost use Rattle.call_lines.specs.Lasts.{answer_of};
 
 use executor_model::{CancelEffect, Kind, Outcome};
 use live_core::Asked;
@@ -11,7 +11,7 @@ use sched_time::Which;
 use timers::{Finished, Run};
 
 /// What a call was answered. It names tasks by 64 bits, where a line names them by 32.
-#[derive(Clone, Copy, Debug, PartialEq, Eq)]
+#[derive(Clone, Copy, Debug)]
 pub enum Said {
     /// The task was accepted.
     Submit {

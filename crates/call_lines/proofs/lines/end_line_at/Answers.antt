@@ -1,9 +1,9 @@
 use Rattle.std.proofs.Common.{◌≡◌, ◌<◌, ◌^◌, true, Some, length, slice_index_or, refl, sym, ap, ◌∙◌, rules}
 use Rattle.std.proofs.lemmas.Option.{slice_get_read}
 use Rattle.executor_model.specs.declared.types.Line.{Line}
-use Rattle.timers_c.specs.Texts.{is_narrow}
-use Rattle.timers_c.proofs.Spelled.{line_there, narrow_there}
-use Rattle.timers_c.proofs.lines.end_line_at.Goals as goal
+use Rattle.call_lines.specs.Narrow.{is_narrow}
+use Rattle.call_lines.proofs.Spelled.{line_there, narrow_there}
+use Rattle.call_lines.proofs.lines.end_line_at.Goals as goal
 
 pub overflow_cast-message : goal.overflow_cast-message
 overflow_cast-message c =

@@ -6,9 +6,9 @@ ghost use Rattle.executor_model.specs.declared.types.Answer.TheVariants as answe
 ghost use Rattle.executor_model.specs.declared.types.Message.TheVariants as message;
 ghost use Rattle.task_table.specs.Endings.{numbers_of};
 ghost use Rattle.live_core.specs.Lined as lined;
-ghost use Rattle.timers_c.specs.Texts as texts;
-ghost use Rattle.timers_c.specs.Texts.{are_spelled, is_told};
-ghost use Rattle.timers_c.specs.own.Lasts.{answer_of, lines_of_last, said_lines};
+ghost use Rattle.call_lines.specs.Narrow as narrows;
+ghost use Rattle.call_lines.specs.Narrow.{are_spelled, is_told};
+ghost use Rattle.call_lines.specs.Lasts.{answer_of, lines_of_last, said_lines};
 
 use crate::last::Last;
 use crate::said::Said;
@@ -166,7 +166,7 @@ fn answer_in(said: Said) -> Option<Answer>
 /// A number with 32 bits, where it has no more.
 fn narrow(number: u64) -> Option<u32>
     ensures there { IfSome result (λ n. n ≡ number) }
-    ensures narrow { is_some result ≡ texts.is_narrow number }
+    ensures narrow { is_some result ≡ narrows.is_narrow number }
 {
     if number < 1 << 32 {
         Some(number as u32)

@@ -1,15 +1,14 @@
--- Lines that have room for each number, and where they stand.
-use Rattle.std.proofs.Common.{◌≡◌, ℕ, ◌+◌, ◌<◌, Bool, true, false, List, Some, map, drop, length, slice_get, refl, sym, ap, ◌∙◌}
+-- Lines of tasks that were ended, and their room for numbers.
+use Rattle.std.proofs.Common.{◌≡◌, ℕ, Bool, true, false, List, Some, map, slice_get, refl, sym, ap, ◌∙◌}
 use Rattle.std.specs.Option.{option_map}
-use Rattle.std.proofs.lemmas.List.{get_or-drop}
 use Rattle.std.proofs.lemmas.List.Folds.{list_all-map, list_all_at}
-use Rattle.std.proofs.lemmas.Option.{get_or_from_slice_get, slice_get-get_or, slice_get-map, slice_get_within}
+use Rattle.std.proofs.lemmas.Option.{get_or_from_slice_get, slice_get-map, slice_get_within}
 use Rattle.executor_model.specs.declared.types.Line.{Line}
 use Rattle.executor_model.specs.Flows.{end_line}
 use Rattle.task_table.specs.declared.seat.TaskRef.{TaskRef}
 use Rattle.task_table.specs.Endings.{numbers_of}
 use Rattle.live_core.specs.Lined as lined
-use Rattle.timers_c.specs.Texts.{are_spelled, is_narrow, is_spelled}
+use Rattle.call_lines.specs.Narrow.{are_spelled, is_narrow, is_spelled}
 
 -- the lines of tasks that were ended have room for their numbers where there is room for each
 pub spelled_ends : (moment : ℕ) (ended : List TaskRef) → are_spelled (map (end_line moment) (numbers_of ended)) ≡ lined.are_spelled ended
@@ -35,8 +34,3 @@ narrow_there moment ended i task spelled there =
     let lines = map (end_line moment) (numbers_of ended) in let line = end_line moment task.number in let at = line_there moment ended i task there in
     true_unless (is_narrow task.number) (λ wide. sym spelled ∙ list_all_at (λ (l : Line). is_spelled l.message) lines i line (slice_get_within lines i line at)
     (ap (λ (l : Line). is_spelled l.message) (get_or_from_slice_get lines i line line at) ∙ wide))
-
--- behind the first ones the lines are those behind them
-pub behind : {X : Type 0} (xs : List X) (n i : ℕ) (x : X) → slice_get xs (n + i) ≡ Some x → i < length (drop n xs) → slice_get (drop n xs) i ≡ Some x
-behind xs n i x there within =
-    slice_get-get_or (drop n xs) i x within ∙ ap (λ y. Some y) (get_or-drop n xs i x ∙ get_or_from_slice_get xs (n + i) x x there)
