@@ -1,3 +1,2 @@
 pub mod AsBox
 pub mod Each
-pub mod Behind
