@@ -44,6 +44,11 @@ impl<A: Allocator> Slots for Tasks<A> {
     }
 
     #[inline(always)]
+    fn is_cancelled(&self, slot: u32) -> bool {
+        self.task(slot as usize).cancelled
+    }
+
+    #[inline(always)]
     fn admit(&mut self, slot: u32, _number: u64, timing: Timing, due: u64) {
         self.submit(slot as usize, timing, due);
     }

@@ -107,6 +107,10 @@ impl<S: Slots, Q: TaskQueue, A: Allocator> Table<S, Q, A> {
             → self.new ≡ changes.cancel_in self.old slot x }
         ensures formed { IsFormed self.old }
     {
+        // Of a task that is cancelled already nothing else is looked at.
+        if self.slots.is_cancelled(slot) {
+            return CancelEffect::No;
+        }
         let seat = self.held(slot);
         let effect = effect_on(&seat);
         if let CancelEffect::Yes = effect {

@@ -88,6 +88,13 @@ impl<A: Allocator> Slots for Seats<A> {
         }
     }
 
+    fn is_cancelled(&self, slot: u32) -> bool {
+        match self.get(slot) {
+            Some(seat) => seat.cancelled,
+            None => false,
+        }
+    }
+
     #[inline(always)]
     fn admit(&mut self, slot: u32, number: u64, timing: Timing, due: u64) {
         self.slots[slot as usize] = Some(Seat {

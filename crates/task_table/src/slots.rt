@@ -37,6 +37,11 @@ pub trait Slots {
         requires { (x : Seat) × (slot_of (seats self.now) slot ≡ Some x) }
         ensures { slot_of (seats self.now) slot ≡ Some result };
 
+    /// Whether the task in a slot is cancelled.
+    fn is_cancelled(&self, slot: u32) -> bool
+        requires { (x : Seat) × (slot_of (seats self.now) slot ≡ Some x) }
+        ensures { (x : Seat) → slot_of (seats self.now) slot ≡ Some x → result ≡ x.cancelled };
+
     /// A task comes into an empty slot: it waits for its first run, which is due at this moment, in nanoseconds, at most 2^63.
     fn admit(&mut self, slot: u32, number: u64, timing: Timing, due: u64)
         requires within { slot < length (seats self.old) }
