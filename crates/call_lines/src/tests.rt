@@ -84,7 +84,10 @@ fn runs_are_told(rt: HostRuntime) {
         due,
     };
     assert_eq!(rt; line_of(Said::begun(worker, Some(begun))), answer(told));
-    assert_eq!(rt; line_of(Said::begun(worker, None)), answer(Answer::Idle { worker }));
+    assert_eq!(rt;
+        line_of(Said::begun(worker, None)),
+        answer(Answer::Idle { worker })
+    );
     let outcome = Outcome::Done(6);
     let ended = Finished {
         task: task(7),
@@ -111,8 +114,14 @@ fn tasks_that_were_ended_follow(rt: HostRuntime) {
     let clock = Line::new(8, Message::Answer(Answer::Clock));
     assert_eq!(rt; line_at(last, 9, &ended, 0), Some(clock));
     assert_eq!(rt; line_at(last, 9, &ended, 1), answer(Answer::ShutdownNow));
-    assert_eq!(rt; line_at(last, 9, &ended, 2), Some(Line::new(9, Message::End(3))));
-    assert_eq!(rt; line_at(last, 9, &ended, 3), Some(Line::new(9, Message::End(5))));
+    assert_eq!(rt;
+        line_at(last, 9, &ended, 2),
+        Some(Line::new(9, Message::End(3)))
+    );
+    assert_eq!(rt;
+        line_at(last, 9, &ended, 3),
+        Some(Line::new(9, Message::End(5)))
+    );
     assert_eq!(rt; line_at(last, 9, &ended, 4), None);
 }
 
