@@ -4,7 +4,7 @@
 //!
 //! - A caller keeps a [`Last`]: the moment that the clock showed, what the call was answered, as a [`Said`], or both.
 //! - [`line_count`] tells how many lines it has, and [`line_at`] makes the one at a place.
-//! - [`all_spelled`] tells whether the lines have room for each number: before it is asked, no line is made.
+//! - [`all_spelled`] tells whether the lines have room for each number: [`line_at`] asks for its yes.
 //!
 //! ```rust
 //! let last = Last::Event {

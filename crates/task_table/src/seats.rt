@@ -74,6 +74,7 @@ impl<A: Allocator> Slots for Seats<A> {
         self.slots.len()
     }
 
+    #[inline(always)]
     fn get(&self, slot: u32) -> Option<Seat> {
         match self.slots.get(slot as usize) {
             Some(seat) => *seat,
@@ -81,6 +82,7 @@ impl<A: Allocator> Slots for Seats<A> {
         }
     }
 
+    #[inline(always)]
     fn held(&self, slot: u32) -> Seat {
         match self.get(slot) {
             Some(seat) => seat,
@@ -88,10 +90,11 @@ impl<A: Allocator> Slots for Seats<A> {
         }
     }
 
+    #[inline(always)]
     fn is_cancelled(&self, slot: u32) -> bool {
-        match self.get(slot) {
-            Some(seat) => seat.cancelled,
-            None => false,
+        match self.slots.get(slot as usize) {
+            Some(Some(seat)) => seat.cancelled,
+            _ => false,
         }
     }
 
