@@ -15,9 +15,9 @@ pub fn core_error_equality_tells()
     ensures { (a b : CoreError) → (⟦<CoreError as PartialEq>⟧.eq a b ≡ true) ↔ (a ≡ b) }
 {}
 
-/// A table of tasks, to which calls are told while it runs, and a core of a plan with these calls give the same lines for the
-/// same calls and events: wherever both stand at one history, what comes next has one reply and the same lines, and both stand at
-/// one history again.
+/// A table of tasks, to which calls are told while it runs, and a core of a plan with these calls give the same lines for the same
+/// call or event: wherever both stand at one history, what comes next has one reply and the same lines, and both stand at one
+/// history again. (The law `a_live_executor_gives_the_lines_of_a_plan` of `live_plain` says it of an executor and all that happened.)
 pub fn live_and_plan_give_the_same_lines()
     ensures { (table new : TableView) (core next : CoreView) (past : List HistoryEntry)
         (before lines : List Line) (y : Happening) (r : Reply) → StandAlike table core past

@@ -85,7 +85,7 @@
 //! calls take no memory. `event` takes memory for lines alone, and none where the list has room for one line, one for
 //! each call that is left and one for each task that is not cancelled. A clock costs what the calls that it reaches
 //! cost; a submission, a start, a finish and a cancel cost what the queue of waiting tasks does
-//! (see [`PlanQueue`](plan_table::PlanQueue)), and a start also what the kept tasks that leave cost. Setting a policy
+//! (see [`DelayQueue`](delay_queue::DelayQueue)), and a start also what the kept tasks that leave cost. Setting a policy
 //! that does not sweep costs the same whatever it holds, and asking how far the executor is a look at each worker. A sweep
 //! goes over all tasks where there may be one that it ends: at a shutdown at once where a task waits, where periodic tasks do
 //! not go on and one of them waits, and the first time that delayed tasks are not executed. Each other sweep costs nothing

@@ -16,7 +16,7 @@ pub fn policies_are_the_last_set()
     ensures { PoliciesAreTheLastSet }
 {}
 
-/// The executor is shut exactly when a shutdown call was made.
+/// The executor is shut exactly when a shutdown call was made, orderly or at once, and stopped exactly when one at once was.
 pub fn shut_is_a_shutdown()
     ensures { ShutIsAShutdown }
 {}
@@ -52,7 +52,8 @@ pub fn queued_and_running_are_tasks()
     ensures { QueuedAndRunningAreTasks }
 {}
 
-/// A sweep ends, in ascending number, exactly the tasks of the plan that wait and that the policies say.
+/// A sweep ends, in ascending number, exactly the tasks of the plan that wait and that the policies say, or all that wait where the
+/// executor is stopped.
 pub fn swept_are_those()
     ensures { SweptAreThose }
 {}

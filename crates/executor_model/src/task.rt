@@ -24,7 +24,7 @@ pub struct Task {
     pub phase: Stage,
     /// The number of the run that it waits for, that is under way, or that was its last.
     pub run: u32,
-    /// The due moment of that run, and after the last one that of the run that would come, in
+    /// The due moment of that run, and after the last one that of the run that would come, or of a task with one run its own, in
     /// nanoseconds.
     pub due: u64,
     /// How often it runs.

@@ -1,5 +1,10 @@
 pub use Rattle.queue_code.specs.Calls
+pub use Rattle.executor_model.specs.Histories
 pub use Rattle.executor_model.specs.Flows
+pub use Rattle.task_table.specs.Tables
+pub use Rattle.live_core.specs.Lives
+pub use Rattle.executor_core.specs.CoreView
 pub use Rattle.live_engine.specs.LiveLines
 pub mod PlainLines
+pub mod SameLines
 pub mod own

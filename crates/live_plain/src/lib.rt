@@ -28,6 +28,9 @@
 //! A call is made at the moment that comes next, which is now, or 1 ns after the last accepted clock, whichever is later. A cancel
 //! from outside of a number that was not given out yet names no task in the script, also none that is given that number later.
 //!
+//! That a live executor and the core of a plan with its calls give the same lines is a law here,
+//! [`a_live_executor_gives_the_lines_of_a_plan`].
+//!
 //! # Order and ties
 //!
 //! The lines of the input and those of the trace stand the oldest first. Ties are those of the executor: by due moment, and at the
@@ -51,9 +54,11 @@
 #![tactic(auto)]
 
 mod call_codes;
+mod laws;
 mod script;
 #[cfg(test)]
 mod tests;
 mod tracing;
 
+pub use laws::a_live_executor_gives_the_lines_of_a_plan;
 pub use tracing::trace_of_lines;

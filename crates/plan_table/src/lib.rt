@@ -22,8 +22,8 @@
 //! # Errors
 //!
 //! `plan_table` fails with `AllocError` where the allocator has no room. The calls of the table fail as those of each
-//! [`Table`](task_table::Table) do; a start wants a first task that has had fewer than 2^32 - 1 runs, so
-//! [`StartError::Full`](task_table::StartError::Full) never comes.
+//! [`Table`](task_table::Table) do; a start wants that the first task that is due has had fewer than 2^32 - 1 runs, and of such a
+//! task [`StartError::Full`](task_table::StartError::Full) never comes.
 //!
 //! # Tests
 //!

@@ -78,7 +78,7 @@ impl<A: Allocator> Tasks<A> {
         self.words.len()
     }
 
-    /// How many tasks are not cancelled.
+    /// How many of the tasks that the slots show are not cancelled; those that were not submitted yet are not.
     pub fn uncancelled(&self) -> usize
         ensures value { result ≡ uncancelled_in self.now }
         ensures same { tasks_at (slots_by 0 self.now) ≡ self.now }
@@ -86,7 +86,7 @@ impl<A: Allocator> Tasks<A> {
         self.tallies.uncancelled
     }
 
-    /// How many periodic tasks wait for a run.
+    /// How many periodic tasks, of those that the slots show, wait for a run.
     pub fn periodic(&self) -> usize
         ensures value { result ≡ periodic_in self.now }
         ensures same { tasks_at (slots_by 0 self.now) ≡ self.now }
@@ -94,7 +94,7 @@ impl<A: Allocator> Tasks<A> {
         self.tallies.periodic
     }
 
-    /// The words of the tasks.
+    /// The words of the tasks that the slots show, by number.
     pub fn words(&self) -> &[Word]
         ensures value { result.now ≡ map word_of_task self.now }
         ensures same { tasks_at (slots_by 0 self.now) ≡ self.now }

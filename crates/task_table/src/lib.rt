@@ -31,7 +31,7 @@
 //! A contract sees the moment, what each slot holds, the slot of each worker's task, the policies, and whether the executor is
 //! shut, and stopped (`specs/Tables.antt`). Each call has two kinds of clauses. The first say exactly what becomes of that
 //! (`specs/Changes.antt`). The others say that the step is the one of the executor's equations: whatever the calls and the
-//! history are where the table stood before it, the answer is theirs, and the table stands where they lead (`Stands`,
+//! history are where the table stood before it, the answer is theirs, and the table shows where they lead (`Takes`,
 //! `EventSteps` and `CallSteps` in `specs/Tables.antt`).
 //!
 //! Of the tasks that wait, a start gets the one that was due first, and of those due at one moment the one that was submitted
@@ -41,10 +41,12 @@
 //! [`drop_kept`](Table::drop_kept), each until the answer is `None`; so it learns the slot of each, and can release it. The
 //! calls that sweep put the tasks that they end into a list, ascending by number.
 //!
-//! Two of these calls can be made in steps. One above that writes down who ends as it goes sets the policy, or what says that the
-//! executor is shut, alone, by [`set`](Table::set), [`shut_at`](Table::shut_at) or [`stop_at`](Table::stop_at), and then sweeps
-//! slot by slot, by [`sweep_slot`](Table::sweep_slot): these four have the first kind of clauses alone. One that has to know first what a finish comes to asks
-//! [`end_of`](Table::end_of), and makes it so by [`end_as`](Table::end_as).
+//! Calls that sweep, starts and finishes can be made in steps. One above that writes down who ends as it goes sets the policy, or
+//! what says that the executor is shut, alone, by [`set`](Table::set), [`shut_at`](Table::shut_at) or [`stop_at`](Table::stop_at),
+//! and then sweeps slot by slot, by [`sweep_slot`](Table::sweep_slot): these four have the first kind of clauses alone. One that
+//! knows that a start is not refused, as it asked for its [`start_error`](Table::start_error), makes it by
+//! [`start_free`](Table::start_free). One that has to know first what a finish comes to asks [`end_of`](Table::end_of), and makes
+//! it so by [`end_as`](Table::end_as).
 //!
 //! # Moments
 //!
@@ -52,8 +54,8 @@
 //! moment, and none goes back.
 //!
 //! The clauses of steps speak of histories that go on so: the tasks have the numbers 0, 1, .. in the order of their submission, and
-//! a call is made after each clock that was accepted and is below its moment. Of a call that comes otherwise the first clauses
-//! alone say what it does.
+//! each clock that was accepted before a call is below the call's moment. Of a call that comes otherwise the first clauses alone
+//! say what it does.
 //!
 //! # Errors
 //!

@@ -9,7 +9,8 @@ pub struct Seat {
     pub number: u64,
     /// The number of the run that it waits for, that is under way, or that was its last.
     pub run: u64,
-    /// The due moment of that run, and after the last one that of the run that would come, in nanoseconds.
+    /// The due moment of that run, and after the last one that of the run that would come, or of a task with one run its own, in
+    /// nanoseconds.
     pub due: u64,
     /// How often it runs.
     pub timing: Timing,

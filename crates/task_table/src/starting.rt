@@ -136,7 +136,8 @@ impl<S: Slots, Q: TaskQueue, A: Allocator> Table<S, Q, A> {
     /// A worker that has no work asks for it, which is a [`start`](Table::start) that is not refused: it begins a run of the first
     /// task that is due, or none, where none is.
     ///
-    /// The kept tasks that it meets were dropped before, as [`drop_met`](Table::drop_met) tells.
+    /// The kept tasks that it meets were dropped before, as [`drop_met`](Table::drop_met) tells. The run of the first task that
+    /// is due may be under way, as for a [`start`](Table::start).
     ///
     /// # Errors
     ///
