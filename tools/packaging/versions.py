@@ -15,7 +15,7 @@ PLACES = [
     ("include/sched_version.h", r"(?<=#define SCHED_VERSION_MAJOR )\d+", "{0}"),
     ("include/sched_version.h", r"(?<=#define SCHED_VERSION_MINOR )\d+", "{1}"),
     ("include/sched_version.h", r"(?<=#define SCHED_VERSION_PATCH )\d+", "{2}"),
-    ("crates/sched/src/version.rt", r'(?<=pub const VERSION: &str = ")[^" ]*(?= )', "{0}.{1}.{2}"),
+    ("crates/command_line/src/version.rt", r'(?<=pub const VERSION: &str = ")[^" ]*(?= )', "{0}.{1}.{2}"),
     ("docs/EMBEDDING.md", r"(?<=dist/sched-)\d+\.\d+\.\d+(?=-linux)", "{0}.{1}.{2}"),
     ("docs/EMBEDDING.md", r"(?<=dist/sched_)\d+\.\d+\.\d+(?=-1_amd64)", "{0}.{1}.{2}"),
     ("docs/EMBEDDING.md", r"(?<=dist/libsched0_)\d+\.\d+\.\d+(?=-1_amd64)", "{0}.{1}.{2}"),
@@ -23,7 +23,7 @@ PLACES = [
     ("docs/EMBEDDING.md", r"(?<=dist/sched_timers-)\d+\.\d+\.\d+(?=-py3)", "{0}.{1}.{2}"),
     ("docs/EMBEDDING.md", r"(?<=dist/sched-rust-)\d+\.\d+\.\d+(?=\.tar)", "{0}.{1}.{2}"),
     ("docs/EMBEDDING.md", r"(?<=--path sched-rust-)\d+\.\d+\.\d+", "{0}.{1}.{2}"),
-    ("crates/sched/src/tests/help.rt", r"(?<=--version\nsched )\d+\.\d+\.\d+(?= )", "{0}.{1}.{2}"),
+    ("crates/program_tests/src/help.rt", r"(?<=--version\nsched )\d+\.\d+\.\d+(?= )", "{0}.{1}.{2}"),
     ("examples/embed/rust/Cargo.toml", r'(?<=name = "sched"\nversion = ")[^"]*', "{0}.{1}.{2}"),
     ("examples/embed/rust/Cargo.lock", r'(?<=name = "sched"\nversion = ")[^"]*', "{0}.{1}.{2}"),
 ]
@@ -32,7 +32,7 @@ PLACES = [
 # The two places that name the toolchain with which all is proved.
 TOOLCHAIN = {
     "README.md": r"(?<=^Proved with `)[^`]*(?=`)",
-    "crates/sched/src/version.rt": r'(?<=pub const VERSION: &str = ")[^"]*(?=")',
+    "crates/command_line/src/version.rt": r'(?<=pub const VERSION: &str = ")[^"]*(?=")',
 }
 
 

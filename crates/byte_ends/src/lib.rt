@@ -43,7 +43,7 @@
 //!
 //! # Tests
 //!
-//! They stand in `src/tests.rt`, and the lines above in `src/tests/usage.rt`.
+//! They stand in `run_tests`.
 #![tactic(auto)]
 
 mod ends;
@@ -52,8 +52,6 @@ mod held;
 mod laws;
 mod memory;
 mod readers;
-#[cfg(test)]
-mod tests;
 mod writers;
 
 pub use ends::{Sink, Source, read_some, write_some, write_text};

@@ -22,7 +22,5 @@
 #![tactic(auto)]
 
 mod kept;
-#[cfg(test)]
-mod tests;
 
 pub use kept::Kept;

@@ -47,7 +47,7 @@
 //!
 //! # Tests
 //!
-//! They stand in `src/tests.rt` and `src/tests/plans.rt`.
+//! They stand in `plan_tests`.
 #![tactic(auto)]
 
 mod blocks;
@@ -56,8 +56,6 @@ mod entries;
 mod journal;
 mod limits;
 mod plans;
-#[cfg(test)]
-mod tests;
 
 pub use call_text::CallLine;
 pub use journal::{Journal, MadeCall};

@@ -35,14 +35,12 @@
 //!
 //! No memory is taken. [`all_spelled`] looks at each task that was ended; all else takes a few steps.
 //!
-//! The tests stand in `src/tests.rt`, and the lines above in `src/tests/usage.rt`.
+//! The tests stand in `text_tests`.
 #![tactic(auto)]
 
 mod last;
 mod lines;
 mod said;
-#[cfg(test)]
-mod tests;
 
 pub use last::Last;
 pub use lines::{all_spelled, line_at, line_count};

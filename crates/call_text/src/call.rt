@@ -126,6 +126,3 @@ fn split_set(bytes: &[u8]) -> Option<((Which, bool), &[u8])>
     };
     Some(((which, value), rest))
 }
-
-#[cfg(test)]
-mod tests;

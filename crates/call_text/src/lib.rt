@@ -58,15 +58,13 @@
 //! the newline, and for a call last. The longest line of a call has 51 bytes, so each is below
 //! [`MOST_EVENT_BYTES`](trace_text::MOST_EVENT_BYTES), as the longest of an event, 35, is.
 //!
-//! The tests of a module stand beside it, as `src/call/tests.rt`, and the lines above in `src/tests.rt`.
+//! The tests stand in `text_tests`.
 #![tactic(auto)]
 
 mod call;
 mod laws;
 mod live;
 mod spans;
-#[cfg(test)]
-mod tests;
 
 pub use call::{CallLine, read_call, split_call};
 pub use laws::{

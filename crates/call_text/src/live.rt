@@ -35,6 +35,3 @@ pub fn front_line(bytes: &[u8]) -> LiveFront
         }
     }
 }
-
-#[cfg(test)]
-mod tests;

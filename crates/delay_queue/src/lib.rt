@@ -53,17 +53,13 @@
 //!
 //! # Tests
 //!
-//! They stand in `src/tests.rt`.
+//! They stand in `queue_tests`.
 #![tactic(auto)]
 
 mod entry;
 mod error;
 pub mod laws;
-#[cfg(test)]
-mod plain;
 mod queue;
-#[cfg(test)]
-mod tests;
 
 pub use entry::Entry;
 pub use error::QueueError;

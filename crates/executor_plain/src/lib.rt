@@ -35,8 +35,8 @@
 //!
 //! # Tests
 //!
-//! `trace_check/src/tests/row_by_row.rt` compares this program with cores, over the crate `rows`. The tests of
-//! `executor_model`, and of `executor_core` by itself, stand in `src/tests/cores`.
+//! `check_tests` compares this program with cores, over the crate `rows`. The tests of
+//! `executor_model`, and of `executor_core` by itself, stand in `executor_tests`.
 #![tactic(auto)]
 
 mod ends;
@@ -47,8 +47,6 @@ mod queue;
 mod table;
 mod tasks;
 mod telling;
-#[cfg(test)]
-mod tests;
 mod tracing;
 
 pub use ends::ends_after;

@@ -18,11 +18,8 @@
 //!
 //! # Tests
 //!
-//! That of the lines above stands in `src/tests.rt`, all others in the crates that use it.
+//! That of the lines above stands in `plan_tests`, all others in the crates that use it.
 #![tactic(auto)]
-
-#[cfg(test)]
-mod tests;
 
 use std::alloc::{Allocator, Global};
 

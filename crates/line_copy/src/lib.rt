@@ -40,15 +40,13 @@
 //! No memory is taken, and each byte is written where it stays. Lines of one moment, one behind the other, copy the digits of it
 //! from the last one.
 //!
-//! The tests stand in `src/tests.rt`, and the lines above in `src/tests/usage.rt`.
+//! The tests stand in `text_tests`.
 #![tactic(auto)]
 
 mod copied;
 mod copy;
 mod laws;
 mod slice;
-#[cfg(test)]
-mod tests;
 
 pub use copied::Copied;
 pub use copy::LineCopy;

@@ -71,7 +71,7 @@
 //! edits away (`IsNear`).
 //!
 //! Which fault an [`EventFault`] tells, which of the words that are near is told, and the text of a reason are only tested, in
-//! `src/tests`.
+//! `check_tests`.
 //!
 //! # Memory and cost
 //!
@@ -86,8 +86,6 @@ mod form;
 mod line;
 mod number;
 mod shown;
-#[cfg(test)]
-mod tests;
 mod words;
 
 pub use choice::Choice;

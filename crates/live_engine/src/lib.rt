@@ -58,8 +58,6 @@ mod step_calls;
 mod step_events;
 mod stepping;
 mod stops;
-#[cfg(test)]
-mod tests;
 
 pub use engine::run;
 pub use live_line::LiveLine;

@@ -49,15 +49,13 @@
 //!
 //! # Tests
 //!
-//! `src/tests` compares it with the executor of `live_core`: on all sequences of so many lines over several alphabets, and on
+//! `run_tests` compares it with the executor of `live_core`: on all sequences of so many lines over several alphabets, and on
 //! sequences that are drawn.
 #![tactic(auto)]
 
 mod call_codes;
 mod laws;
 mod script;
-#[cfg(test)]
-mod tests;
 mod tracing;
 
 pub use laws::a_live_executor_gives_the_lines_of_a_plan;

@@ -38,7 +38,7 @@
 //! - Where a word is the same but for the case of ASCII letters, no others are told (`IsSameBut`).
 //! - At most three are told.
 //!
-//! That words are told, and which of those that are near, and the escapes are only tested, in `src/tests.rt` and `src/tests`.
+//! That words are told, and which of those that are near, and the escapes are only tested, in `check_tests`.
 //!
 //! # Memory and cost
 //!
@@ -48,8 +48,6 @@
 
 mod escapes;
 mod nearness;
-#[cfg(test)]
-mod tests;
 
 pub use escapes::{FileName, is_unseen, write_escaped, write_text};
 pub use nearness::near;

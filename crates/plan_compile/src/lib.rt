@@ -61,12 +61,9 @@
 //! [`Submissions`] takes no memory: it walks over blocks, iterations and calls. Each step costs the same; a block without
 //! submissions is walked over iteration by iteration.
 //!
-//! The tests stand in `src/code_tests.rt`, those of plan texts in `src/plan_tests`, a file for each topic, that of the
-//! largest plan in `src/size_tests.rt`, and examples in `src/usage_tests.rt`.
+//! The tests stand in `plan_tests`, with those of plan texts, a file for each topic.
 #![tactic(auto)]
 
-#[cfg(test)]
-mod code_tests;
 mod compiling;
 mod emitting;
 mod fault;
@@ -75,16 +72,8 @@ mod laws;
 mod names;
 mod numbers;
 mod place;
-#[cfg(test)]
-mod plan_tests;
-#[cfg(test)]
-mod size_tests;
 mod submission;
-#[cfg(test)]
-mod submission_tests;
 mod submissions;
-#[cfg(test)]
-mod usage_tests;
 
 pub use compiling::compile;
 pub use fault::CompileFault;

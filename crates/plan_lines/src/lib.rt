@@ -32,7 +32,7 @@
 //! # What is proved
 //!
 //! That lines and columns are counted as `specs/Lines.antt` says, and that a line which is told is one of the text. That the place
-//! stands on that line is only tested, in `src/tests.rt` and `src/tests`.
+//! stands on that line is only tested, in `check_tests`.
 //!
 //! # Memory and cost
 //!
@@ -43,8 +43,6 @@ mod lines;
 mod places;
 mod strings;
 mod tables;
-#[cfg(test)]
-mod tests;
 mod tokens;
 mod walk;
 

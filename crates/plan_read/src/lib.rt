@@ -109,8 +109,7 @@
 //! A migration takes the tree apart, changes it in place and prints it; it takes memory of the heap for the keys and the
 //! values that it adds, and for the text.
 //!
-//! The tests of this crate stand in the crate above it, in `plan_compile/src/plan_tests.rt`, and
-//! examples in `plan_compile/src/usage_tests.rt`.
+//! The tests stand in `plan_tests`.
 #![tactic(auto)]
 
 mod calls;

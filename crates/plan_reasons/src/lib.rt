@@ -74,7 +74,7 @@
 //! - The most blocks and the most calls, of a block and in all, are those of `plan_read` ([`limits_agree`]).
 //!
 //! That a key is told, and which of those at which a fault of its kind may be, what is told to be wanted, the keys and the words
-//! of a choice among it, and the text of a reason are only tested, in `src/tests`.
+//! of a choice among it, and the text of a reason are only tested, in `check_tests`.
 //!
 //! # Memory and cost
 //!
@@ -95,8 +95,6 @@ mod reason;
 mod scene;
 mod spelled;
 mod tables;
-#[cfg(test)]
-mod tests;
 mod tops;
 mod versions;
 mod wanted;

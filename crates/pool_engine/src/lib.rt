@@ -63,9 +63,8 @@
 //!
 //! # Tests
 //!
-//! They stand in `src/tests.rt` and `src/tests`: answers and texts of runs by one worker, runs by many, whose texts go through
-//! [`check`](trace_check::check), and ends that follow a script, of the crate `scripted_ends`. `plan_read` and `rows` are for
-//! tests alone, and `trace_check` for them and for the law [`pool_runs_conform`].
+//! They stand in `pool_tests`: answers and texts of runs by one worker, runs by many, whose texts go through
+//! [`check`](trace_check::check), and ends that follow a script, of the crate `scripted_ends`.
 #![tactic(auto)]
 
 mod clocks;
@@ -73,8 +72,6 @@ mod ended;
 mod laws;
 mod pooled;
 mod stops;
-#[cfg(test)]
-mod tests;
 
 pub use clocks::ReadingError;
 pub use laws::pool_runs_conform;

@@ -74,7 +74,7 @@
 //! same whatever the code: a cursor is six numbers, and no list of calls is ever made, however often a loop is
 //! repeated.
 //!
-//! The tests stand in `src/code_tests`, and those of the largest codes in `src/size_tests.rt`.
+//! The tests stand in `meaning_tests`.
 #![tactic(auto)]
 
 mod agenda;
@@ -82,15 +82,11 @@ mod call;
 mod check;
 mod code;
 pub mod code_laws;
-#[cfg(test)]
-mod code_tests;
 mod cursor;
 mod fault;
 mod instr;
 mod limits;
 mod progress;
-#[cfg(test)]
-mod size_tests;
 mod text;
 
 pub use agenda::Agenda;

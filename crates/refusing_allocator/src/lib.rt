@@ -38,12 +38,10 @@
 //!
 //! # Tests
 //!
-//! That of the lines above stands in `src/tests.rt`, all others in the crates that use it, each of which refuses growths that are
+//! That of the lines above stands in `run_tests`, all others in the crates that use it, each of which refuses growths that are
 //! told, and gives back all that it took.
 #![tactic(auto)]
 
 mod refusing;
-#[cfg(test)]
-mod tests;
 
 pub use refusing::Refusing;

@@ -50,13 +50,11 @@
 //!
 //! # Tests
 //!
-//! They stand in `src/tests.rt`, and the lines above in `src/tests/usage.rt`.
+//! They stand in `word_tests`.
 #![tactic(auto)]
 
 mod cell;
 pub mod laws;
-#[cfg(test)]
-mod tests;
 mod verdict;
 
 pub use cell::{ResultCell, same};

@@ -24,9 +24,8 @@
 //!
 //! # Tests
 //!
-//! `trace_check/src/tests/row_by_row.rt` has the core and the plain program answer the events, and checks each front of the trace;
-//! `sched_engine/src/tests/row_by_row.rt` runs from bytes to bytes, and `sched_audit/src/tests/row_by_row.rt` checks what it ran, also
-//! with the plan migrated. Those of the same name in `worker_pool` and `pool_engine` go over
+//! In `check_tests` the core and the plain program answer the events, and each front of the trace is checked;
+//! `run_tests` runs from bytes to bytes, and checks what it ran, also with the plan migrated. `pool_tests` goes over
 //! them with a book and with a pool.
 #![tactic(auto)]
 

@@ -29,7 +29,7 @@
 //!
 //! # Behaviour
 //!
-//! The words of the command line become one value, `Asked`, before anything is opened. Then at most 1,048,577
+//! The words of the command line become one value, [`Asked`](command_line::Asked), before anything is opened. Then at most 1,048,577
 //! bytes of the plan file are read, and [`run`](sched_engine::run) does the rest: it answers all that it read before it
 //! reads more. `code` writes the listing of the plan's code instead ([`write_listing`](sched_engine::write_listing)), and `tasks` a
 //! line for each task that it submits ([`write_tasks`](task_list::write_tasks)).
@@ -42,7 +42,7 @@
 //! ([`plan_text`](call_journal::plan_text)). `lint` reads the plan, and then the events or the trace, and writes `fine`, or tells what is
 //! wrong in one line on standard error ([`reason_of`](plan_reasons::reason_of), [`reason_of_events`](line_reasons::reason_of_events),
 //! [`reason_of_trace`](trace_reasons::reason_of_trace)). No clock of the machine is read. All but `pool` and `lint` is done by
-//! `answer_alone`; all but `pool` waits for no other thread, and returns.
+//! [`answer_alone`](sched_program::answer_alone); all but `pool` waits for no other thread, and returns.
 //!
 //! # Order and ties
 //!
@@ -72,36 +72,14 @@
 //!
 //! # Tests
 //!
-//! `tests/` has a file for the command line, its help, the files, the lines of errors, whole programs, pictures and lints, in the world
-//! of `world.rt`. `tools/sizes` runs the built program at the greatest sizes.
+//! They stand in `program_tests`. `tools/sizes` runs the built program at the greatest sizes.
 #![tactic(auto)]
 
-mod answer;
-mod arguments;
-mod command;
-mod drawing;
-mod error;
-mod error_line;
-mod files;
-mod finding;
-mod help;
-mod laws;
-mod lint;
-mod lint_files;
-mod live;
-mod opening;
-mod program;
-mod refusal;
-mod serving;
-#[cfg(test)]
-mod tests;
-mod version;
-mod work;
-
 use byte_ends::Writing;
+use sched_program::program;
 use std::process::ExitCode;
 
 fn main(rt: HostRuntime) -> ExitCode {
     let mut faults = Writing::new(rt.stderr());
-    program::program(&rt, &rt, &mut faults)
+    program(&rt, &rt, &mut faults)
 }

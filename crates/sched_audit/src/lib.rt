@@ -49,10 +49,10 @@
 //!
 //! # Tests
 //!
-//! `tests/row_by_row.rt` goes over the crate `rows`, `tests.rt` has runs that end early and the texts of errors, and
-//! `tests/sizes.rt` runs, checks and listings of 80 KB and more.
+//! They stand in `run_tests`: over the crate `rows`, runs that end early, the texts of errors, and runs, checks and listings of
+//! 80 KB and more.
 //!
-//! `tests/growths` is about crates below as well: of a plan that is read, compiled, listed, run and checked, and of an event, each
+//! Some are about crates below as well: of a plan that is read, compiled, listed, run and checked, and of an event, each
 //! growth is refused in turn, over the crate `refusing_allocator`, which refuses one growth and grants all others. Want of
 //! memory is then told, or nothing else than with ample memory; all memory is given back; what was written is the text of whole
 //! events; and an event that was refused is given again. What the crate `toml` takes is of the heap of the system, and is granted
@@ -62,8 +62,6 @@
 mod audit;
 mod error;
 mod laws;
-#[cfg(test)]
-mod tests;
 
 pub use audit::{Audit, run_and_check};
 pub use error::AuditError;

@@ -66,8 +66,6 @@ mod laws;
 mod listing;
 mod one_event;
 mod report;
-#[cfg(test)]
-mod tests;
 
 pub use draft::Draft;
 pub use engine::{code_of, core_of, run};

@@ -46,7 +46,7 @@
 //!
 //! # Tests
 //!
-//! They stand in `src/tests.rt`, and the lines above in `src/tests/usage.rt`.
+//! They stand in `meaning_tests`.
 #![tactic(auto)]
 
 mod conversions;
@@ -55,8 +55,6 @@ pub mod laws;
 mod limits;
 mod policies;
 mod spans;
-#[cfg(test)]
-mod tests;
 mod timing;
 mod unit;
 

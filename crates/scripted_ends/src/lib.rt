@@ -32,14 +32,12 @@
 //!
 //! # Tests
 //!
-//! That of the lines above stands in `src/tests.rt`, all others in the crates that use it.
+//! That of the lines above stands in `run_tests`, all others in the crates that use it.
 #![tactic(auto)]
 
 mod giving;
 mod script;
 mod taking;
-#[cfg(test)]
-mod tests;
 
 pub use giving::Giving;
 pub use script::{Script, Trouble};

@@ -71,19 +71,15 @@
 //!
 //! # Tests
 //!
-//! They stand in `src/tests.rt`.
+//! They stand in `queue_tests`.
 #![tactic(auto)]
 
 mod entry;
 mod error;
 mod heap;
 pub mod laws;
-#[cfg(test)]
-mod plain;
 mod queue;
 mod rank;
-#[cfg(test)]
-mod tests;
 
 pub use entry::Entry;
 pub use error::QueueError;

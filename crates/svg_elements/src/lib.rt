@@ -54,15 +54,13 @@
 //!
 //! An element takes no memory. A text is gone over character by character.
 //!
-//! The tests stand in `src/tests.rt`, and the lines above in `src/tests/usage.rt`.
+//! The tests stand in `picture_tests`.
 #![tactic(auto)]
 
 mod document;
 mod escaped;
 mod laws;
 mod shapes;
-#[cfg(test)]
-mod tests;
 mod words;
 
 pub use document::{Closing, GLYPHS, Opening, STYLE};

@@ -40,12 +40,10 @@
 //!
 //! [`write_tasks`] takes the plan, and 64 KiB for the text that is not written yet, however often a block is made.
 //!
-//! The tests stand in `src/tests.rt` and `src/tests`.
+//! The tests stand in `plan_tests`.
 #![tactic(auto)]
 
 mod page;
-#[cfg(test)]
-mod tests;
 mod writing;
 
 pub use writing::write_tasks;

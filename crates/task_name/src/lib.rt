@@ -21,11 +21,9 @@
 //!
 //! # Tests
 //!
-//! They stand in `src/tests.rt`.
+//! They stand in `plan_tests`.
 #![tactic(auto)]
 
 mod name;
-#[cfg(test)]
-mod tests;
 
 pub use name::{Name, is_name};

@@ -59,8 +59,7 @@
 //! constant time, but `new` and `close`, which go over the tasks. A handle that is dropped and not joined counts as out for
 //! good.
 //!
-//! The tests stand in `src/tests.rt`, the lines above in `src/tests/usage.rt`, and tests of sizes, handles and memory in
-//! `src/table_tests.rt`.
+//! The tests stand in `word_tests`.
 #![tactic(auto)]
 
 mod answers;
@@ -73,10 +72,6 @@ mod phases;
 mod plays;
 mod rule;
 mod table;
-#[cfg(test)]
-mod table_tests;
-#[cfg(test)]
-mod tests;
 mod values;
 mod views;
 

@@ -65,8 +65,6 @@ mod checking;
 mod error;
 mod finding;
 mod laws;
-#[cfg(test)]
-mod tests;
 
 pub use checking::{MOST_BYTES, check, check_and_read};
 pub use error::CheckError;

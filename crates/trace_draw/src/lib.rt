@@ -60,7 +60,7 @@
 //!
 //! # Tests
 //!
-//! They stand under `src/tests`.
+//! They stand in `picture_tests`.
 #![tactic(auto)]
 
 mod axis;
@@ -75,8 +75,6 @@ mod marks;
 mod scale;
 mod shown;
 mod steps;
-#[cfg(test)]
-mod tests;
 mod ticks;
 mod whole;
 mod window;

@@ -75,7 +75,7 @@
 //! for each bar or mark. Bars are gone over once for each of the 256 workers that a line can name, and marks once for each row; those
 //! of one lane or row are copied meanwhile.
 //!
-//! The tests stand in `src/tests.rt` and under `src/tests`.
+//! The tests stand in `picture_tests`.
 #![tactic(auto)]
 
 mod axis;
@@ -89,8 +89,6 @@ mod places;
 mod report;
 mod runs;
 mod stacks;
-#[cfg(test)]
-mod tests;
 mod view;
 
 pub use drawing::draw;

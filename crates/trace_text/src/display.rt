@@ -43,6 +43,3 @@ pub fn kind_word(kind: Kind) -> &'static str
         Err(_) => unreachable!(),
     }
 }
-
-#[cfg(test)]
-mod tests;

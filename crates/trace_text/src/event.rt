@@ -138,6 +138,3 @@ fn last_worker(bytes: &[u8]) -> Option<(u8, &[u8])>
     }
     Some((number as u8, rest))
 }
-
-#[cfg(test)]
-mod tests;

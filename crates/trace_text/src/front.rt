@@ -45,6 +45,3 @@ pub fn is_part(bytes: &[u8]) -> bool
 {
     bytes.len() < MOST_EVENT_BYTES && memchr(b'\n', bytes).is_none()
 }
-
-#[cfg(test)]
-mod tests;

@@ -85,7 +85,7 @@
 //! only where there is less room than [`LINE_ROOM`] bytes; a capacity never falls. The longest event's line has 35 bytes, the
 //! longest line of a trace 104.
 //!
-//! The tests of a module stand beside it, as `src/line/tests.rt`, and the lines above in `src/tests.rt`.
+//! The tests stand in `text_tests`.
 #![tactic(auto)]
 
 mod answer;
@@ -101,8 +101,6 @@ mod message_text;
 mod put;
 mod scan;
 mod stamp;
-#[cfg(test)]
-mod tests;
 mod text_error;
 mod words;
 

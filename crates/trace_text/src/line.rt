@@ -48,6 +48,3 @@ fn split_one<const ALONE: bool>(bytes: &[u8]) -> Option<(Line, &[u8])>
     };
     Some((Line::saying(moment, said), rest))
 }
-
-#[cfg(test)]
-mod tests;

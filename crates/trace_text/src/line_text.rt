@@ -92,6 +92,3 @@ pub fn put_line_here(buffer: &mut [u8], at: usize, stamp: &mut Stamp, line: &Lin
     let at = stamp.put_moment(buffer, at, line.moment());
     put_said_here(buffer, at, line.said())
 }
-
-#[cfg(test)]
-mod tests;

@@ -79,6 +79,3 @@ fn count_from(n: u64, fewer: usize, least: u64) -> usize
     }
     fewer + 4
 }
-
-#[cfg(test)]
-mod tests;

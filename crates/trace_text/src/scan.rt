@@ -279,6 +279,3 @@ pub fn worker_before_short_word<const N: usize>(bytes: &[u8], word: [u8; N]) -> 
     }
     Some((worker as u8, rest))
 }
-
-#[cfg(test)]
-mod tests;

@@ -115,6 +115,3 @@ fn numbers_with(count: usize) -> (u64, u64)
     let least = 10u64.pow(count as u32 - 1);
     (least, least * 10)
 }
-
-#[cfg(test)]
-mod tests;

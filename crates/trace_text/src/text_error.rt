@@ -19,6 +19,3 @@ impl From<AllocError> for TextError {
         TextError::Memory
     }
 }
-
-#[cfg(test)]
-mod tests;

@@ -205,6 +205,3 @@ pub fn split_error(bytes: &[u8]) -> Option<(Said, &[u8])>
     }
     None
 }
-
-#[cfg(test)]
-mod tests;

@@ -39,7 +39,7 @@
 //!
 //! `N` is a [`Named`], by which contracts tell of which words, cells, calls and workers a book is. It has no functions: a
 //! caller picks [`Brand`], as `run_code` does, and says in the proof of that function which they are
-//! (`proofs/tests/usage/run_code`).
+//! (`pool_tests/proofs/books/usage/run_code`).
 //!
 //! # Behaviour
 //!
@@ -95,19 +95,18 @@
 //!
 //! # Tests
 //!
-//! They stand in `src/tests`: rows of calls, with their answers and lines. Each growth of such a row is refused in
-//! turn, and all others are granted (`growths.rt`, over the crate `refusing_allocator`): [`Shared::new`], [`Book::new`],
+//! They stand in `pool_tests`: rows of calls, with their answers and lines. Each growth of such a row is refused in
+//! turn, and all others are granted (over the crate `refusing_allocator`): [`Shared::new`], [`Book::new`],
 //! [`Book::apply`], [`Book::note_cancels`], [`Book::admit`] and [`Book::retire`] then tell [`PoolError::Memory`], and each
 //! other call what it tells with ample memory; the refused call is made again, and the lines are those of the row; and no byte
 //! stays in use. The boxes of verdicts are not asked of the allocator, but of the heap that it leads to: they
 //! are neither refused nor counted there.
 //!
-//! `handles.rt`, `limits.rt` and `results.rt` are about several handles, errors and verdicts. `table.rt` plays all short sequences
+//! Others are about several handles, errors and verdicts. One plays all short sequences
 //! of steps over one plan, beside the plain program; the text of the lines of each goes through
-//! [`check`](trace_check::check), which knows nothing of the book, and conforms. `pool` has rows of calls of a pool, what is
+//! [`check`](trace_check::check), which knows nothing of the book, and conforms. There are rows of calls of a pool, what is
 //! answered to another thread while a job is run, and races of workers with handles and a clock, 200 rounds each, whose traces
-//! go through `check` too; a thread beside each test fails it when it takes too long. `refusing_allocator`, `rows`,
-//! `plan_read`, `plan_compile`, `executor_plain`, `trace_text` and `trace_check` are for tests alone.
+//! go through `check` too; a thread beside each test fails it when it takes too long.
 #![tactic(auto)]
 
 mod applied;
@@ -120,8 +119,6 @@ mod named;
 mod pool;
 mod results;
 mod shared;
-#[cfg(test)]
-mod tests;
 
 pub use applied::{Applied, Work};
 pub use book::Book;

@@ -1,0 +1,6 @@
+pub mod Orders
+pub mod Drawings
+pub mod Readings
+pub mod Lints
+pub mod OneLines
+pub mod Lived

@@ -1,0 +1,15 @@
+pub use Rattle.sched_engine.specs.Running
+pub use Rattle.pool_engine.specs.PoolRuns
+pub use Rattle.live_engine.specs.LiveRuns
+pub use Rattle.call_journal.specs.Plans
+pub mod Errors
+pub mod EndCounts
+pub mod Refusals
+pub mod RefusalTexts
+pub mod Fronts
+pub mod Answers
+pub mod Findings
+pub mod Drawings
+pub mod Live
+pub mod Order
+pub mod Linting

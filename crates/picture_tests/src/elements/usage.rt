@@ -1,0 +1,23 @@
+//! The examples of the comments, as they stand there: `tools/docs` compares them.
+use std::test::Fail;
+use svg_elements::{Fill, Rectangle};
+
+#[test]
+fn the_page_is_run(rt: HostRuntime) -> Result<(), Fail> {
+    let alloc = rt.alloc();
+    // example: svg_elements
+    let bar = Rectangle {
+        fill: Fill::Done,
+        left: 1,
+        top: 2,
+        width: 30,
+        height: 4,
+        tip: "a & b",
+    };
+    let text = format!(in alloc; "{bar}")?;
+    let front = "<rect class=\"done\" x=\"1\" y=\"2\" width=\"30\" height=\"4\">";
+    assert!(rt; text.starts_with(front));
+    assert!(rt; text.ends_with("<title>a &amp; b</title></rect>\n"));
+    // end of example
+    Ok(())
+}

@@ -1,5 +1,0 @@
-use Rattle.queue_code.specs.Cursors.{IsCursorOf}
-use Rattle.queue_code.proofs.size_tests.walked.Given as goal
-
-abbrev pub invariant-loop : goal.invariant-loop
-invariant-loop l = IsCursorOf l.code l.cursor

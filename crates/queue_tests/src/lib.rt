@@ -1,0 +1,17 @@
+//! Tests.
+#![tactic(auto)]
+
+#[cfg(test)]
+mod by_hand;
+#[cfg(test)]
+mod calls;
+#[cfg(test)]
+mod delays;
+#[cfg(test)]
+mod drawn;
+#[cfg(test)]
+mod full;
+#[cfg(test)]
+mod plain;
+#[cfg(test)]
+mod slots;

@@ -1,0 +1,106 @@
+//! A heap that counts.
+use super::{Key, place_of};
+use std::alloc::{AllocError, Global};
+
+/// A heap whose entries change places by swaps. It counts each comparison of two entries, and each change of the index of
+/// an entry that was there before the call and is there after it.
+#[derive(Drop)]
+pub(super) struct CountingHeap {
+    entries: Vec<Key>,
+    touched: u64,
+}
+
+impl CountingHeap {
+    pub(super) fn new(alloc: Global) -> CountingHeap {
+        CountingHeap {
+            entries: Vec::new(alloc),
+            touched: 0,
+        }
+    }
+
+    pub(super) fn touched(&self) -> u64 {
+        self.touched
+    }
+
+    pub(super) fn insert(&mut self, entry: Key) -> Result<(), AllocError> {
+        let place = self.entries.len();
+        self.entries.push(entry)?;
+        self.lift(place);
+        Ok(())
+    }
+
+    pub(super) fn poll(&mut self, now: u64) {
+        if self.entries.first().is_some_and(|least| least.0 <= now) {
+            self.take(0);
+        }
+    }
+
+    pub(super) fn remove(&mut self, slot: u32) {
+        if let Some(place) = place_of(&self.entries, slot) {
+            self.take(place);
+        }
+    }
+
+    /// The entry at a place leaves, and the last one comes there, which is then in the wrong place.
+    fn take(&mut self, place: usize) {
+        let last = self.entries.len().saturating_sub(1);
+        self.swap(place, last);
+        let _left = self.entries.pop();
+        if place != last {
+            let lowest = self.lower(place);
+            self.lift(lowest);
+            self.count();
+        }
+    }
+
+    /// The entry at a place goes down as far as it can. Where it is then.
+    fn lower(&mut self, mut place: usize) -> usize {
+        for _ in 0..usize::BITS {
+            let left = place.saturating_mul(2).saturating_add(1);
+            let right = left.saturating_add(1);
+            let next = if right >= self.entries.len() {
+                left
+            } else if self.comes_first(right, left) {
+                right
+            } else {
+                left
+            };
+            if next >= self.entries.len() {
+                break;
+            }
+            self.swap(place, next);
+            self.count();
+            place = next;
+        }
+        place
+    }
+
+    /// The entry at a place goes up until the one above it comes first.
+    fn lift(&mut self, mut place: usize) {
+        for _ in 0..usize::BITS {
+            let above = place.saturating_sub(1) / 2;
+            if place == 0 || self.comes_first(above, place) {
+                break;
+            }
+            self.swap(above, place);
+            self.count();
+            place = above;
+        }
+    }
+
+    /// Whether the entry at one place is less than that at the other. It counts.
+    fn comes_first(&mut self, one: usize, other: usize) -> bool {
+        self.count();
+        self.entries.get(one) < self.entries.get(other)
+    }
+
+    fn swap(&mut self, one: usize, other: usize) {
+        if one < self.entries.len() && other < self.entries.len() {
+            self.entries.swap(one, other);
+        }
+    }
+
+    fn count(&mut self) {
+        self.touched = self.touched.wrapping_add(1);
+    }
+}

@@ -1,5 +1,0 @@
-use Rattle.sched.proofs.Readings.{counts_of_plan}
-use Rattle.sched.proofs.files.plan_front.Goals as goal
-
-pub returns-clause-counts : goal.returns-clause-counts
-returns-clause-counts g c = counts_of_plan c.front_of.result _ _ _ _ c.front_of.ensures.counts

@@ -1,6 +1,0 @@
-use Rattle.std.proofs.Common.{◌∙◌}
-use Rattle.sched.proofs.OneLines.{end_found}
-use Rattle.sched.proofs.refusal.end_of_line.Goals as goal
-
-pub returns-clause-end : goal.returns-clause-end
-returns-clause-end c = c.unwrap_or.ensures ∙ end_found c.args.text.now c.memchr.result c.memchr.ensures

@@ -1,0 +1,6 @@
+pub mod Lines
+pub mod Openings
+pub mod Ends
+pub mod Told
+pub mod Linted
+pub mod Serving

@@ -1,0 +1,33 @@
+//! The program `sched`, over any files, events, outputs and threads: what it does for the arguments of its command line, and how it tells
+//! that.
+//!
+//! # Usage
+//!
+//! ```rust
+//! let mut faults = Writing::new(Vec::new(alloc));
+//! let status = tell(&mut faults, Err(ProgramError::PlanFile));
+//! assert!(rt; status == 1);
+//! assert!(rt; faults.into_inner().as_slice() == b"sched: plan file not read\n".as_slice());
+//! ```
+//!
+//! # Behaviour
+//!
+//! [`program`] reads the arguments of the command line, does what they ask for by [`serve`], and tells how that ended by [`tell`], or
+//! shows help. [`serve`] opens the files that are named and does a command's work: that of a pool, of a lint ([`lint_files`]), or what one
+//! thread does ([`answer_alone`]). All but a pool's work waits for no other thread, and returns.
+//!
+//! The tests stand in `program_tests`.
+#![tactic(auto)]
+
+mod answer;
+mod answering;
+mod error_line;
+mod linting;
+mod opening;
+mod serving;
+
+pub use answer::Answer;
+pub use answering::program;
+pub use error_line::tell;
+pub use linting::lint_files;
+pub use serving::{answer_alone, serve};

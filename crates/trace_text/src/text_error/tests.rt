@@ -1,8 +1,0 @@
-//! What an error says.
-use crate::text_error::TextError;
-
-#[test]
-fn says_each_error(rt: HostRuntime) {
-    let said = format!(in rt.alloc(); "{}", TextError::Memory);
-    assert!(rt; said.is_ok_and(|text| text.as_str() == "out of memory"));
-}
