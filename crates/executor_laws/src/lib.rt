@@ -32,7 +32,7 @@
 //!
 //! # Tests
 //!
-//! None are needed: a law is proved. The tests of the definitions that the laws are about stand in `executor_tests`.
+//! None stand here: a law is proved. The tests of the definitions that the laws are about stand in `executor_plain`.
 #![tactic(auto)]
 
 mod additions;

@@ -41,7 +41,7 @@
 //!
 //! # Tests
 //!
-//! They stand in `executor_tests`, with those of `executor_core` and of the plain program.
+//! They stand in `executor_plain`, beside the plain program, with those of `executor_core`.
 #![tactic(auto)]
 
 mod kept;

@@ -36,7 +36,7 @@
 //! # Tests
 //!
 //! `check_tests` compares this program with cores, over the crate `rows`. The tests of
-//! `executor_model`, and of `executor_core` by itself, stand in `executor_tests`.
+//! `executor_model`, and of `executor_core` by itself, stand in `src/tests/cores`.
 #![tactic(auto)]
 
 mod ends;
@@ -47,6 +47,8 @@ mod queue;
 mod table;
 mod tasks;
 mod telling;
+#[cfg(test)]
+mod tests;
 mod tracing;
 
 pub use ends::ends_after;

@@ -27,7 +27,7 @@
 //!
 //! # Tests
 //!
-//! That of the example stands in `executor_tests`. The rest is tested through the core of a plan.
+//! Here stands that of the example. The rest is tested through the core of a plan, in `executor_plain`.
 #![tactic(auto)]
 
 mod queue;
@@ -35,6 +35,8 @@ mod slots;
 mod table;
 mod tallies;
 mod tasks;
+#[cfg(test)]
+mod tests;
 
 pub use queue::PlanQueue;
 pub use table::{PlanTable, plan_table};

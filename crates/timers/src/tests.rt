@@ -1,0 +1,5 @@
+//! Tests of the timers.
+mod growths;
+mod many;
+mod refusals;
+mod usage;
