@@ -43,7 +43,7 @@
 //!
 //! # Tests
 //!
-//! They stand in `run_tests`.
+//! They stand in `end_tests`.
 #![tactic(auto)]
 
 mod ends;

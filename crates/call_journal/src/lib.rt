@@ -47,7 +47,7 @@
 //!
 //! # Tests
 //!
-//! They stand in `plan_tests`.
+//! They stand in `compile_tests`.
 #![tactic(auto)]
 
 mod blocks;

@@ -1,19 +1,7 @@
-//! Tests of what is told of plans, of events and of traces: lines, near words, reasons, and what a check finds.
+//! Tests of what a check of a trace finds, against the slow program and a plan, row by row.
 #![tactic(auto)]
 
 #[cfg(test)]
 mod checks;
 #[cfg(test)]
-mod line_faults;
-#[cfg(test)]
-mod near;
-#[cfg(test)]
-mod places;
-#[cfg(test)]
-mod plan_faults;
-#[cfg(test)]
 mod plan_texts;
-#[cfg(test)]
-mod tables;
-#[cfg(test)]
-mod trace_faults;

@@ -24,7 +24,7 @@
 //!
 //! An error is help, the version, a fault of the command line, or want of memory: `clap`'s own, with the text that is to be printed.
 //!
-//! The tests stand in `program_tests`.
+//! The tests stand in `command_tests`.
 #![tactic(auto)]
 
 mod arguments;

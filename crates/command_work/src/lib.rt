@@ -38,7 +38,7 @@
 //! A [`ProgramError`] is the first fault: of the plan's file, the plan, the trace's file, the numbers, then the run. Nothing is written
 //! before the run, the picture or the listing begins.
 //!
-//! The tests stand in `program_tests`.
+//! The tests stand in `command_tests`, those of files in `program_tests`.
 #![tactic(auto)]
 
 mod drawing;

@@ -93,7 +93,7 @@
 //!
 //! # Tests
 //!
-//! They stand in `executor_plain`, under `src/tests/cores`, beside the plain program.
+//! They stand in `core_tests`, under `src/plainly/cores`, beside those of the plain program.
 #![tactic(auto)]
 
 mod error;

@@ -32,7 +32,7 @@
 //!
 //! # Tests
 //!
-//! None stand here: a law is proved. The tests of the definitions that the laws are about stand in `executor_plain`.
+//! None are needed: a law is proved. The tests of the definitions that the laws are about stand in `core_tests`.
 #![tactic(auto)]
 
 mod additions;

@@ -41,7 +41,7 @@
 //!
 //! # Tests
 //!
-//! They stand in `executor_plain`, beside the plain program, with those of `executor_core`.
+//! They stand in `core_tests`, with those of `executor_core` and of the plain program.
 #![tactic(auto)]
 
 mod kept;

@@ -9,7 +9,7 @@
 //!
 //! [`trace`] gives the lines of some events, as a core of the same calls does, and [`trace_of_happenings`] those of
 //! happenings, among which the calls stand too. [`answer_after`] gives the answer to one happening after a history, and
-//! [`ends_after`] the tasks that this answer ends.
+//! [`ends_after`] the tasks that this answer ends. [`planned_calls`] writes the calls of a code out.
 //!
 //! # Behaviour
 //!
@@ -24,11 +24,12 @@
 //!
 //! # Errors
 //!
-//! `trace`, `trace_of_happenings` and `ends_after` fail only where there is no memory, and `answer_after` does not fail.
+//! `trace`, `trace_of_happenings`, `ends_after` and `planned_calls` fail only where there is no memory, and `answer_after` does not fail.
 //!
 //! # Memory and cost
 //!
-//! `trace` and `trace_of_happenings` take memory for the history and for the lines, `ends_after` for the tasks, and `answer_after` takes none.
+//! `trace` and `trace_of_happenings` take memory for the history and for the lines, `ends_after` for the tasks, `planned_calls` for the
+//! calls, and `answer_after` takes none.
 //! An answer to a start, and the tasks of a sweep, go over the whole history once and more for each task; an answer to
 //! a question goes over what stands before each entry once and more for each task, and each other one over the whole
 //! history a few times: it is slow, and for tests.
@@ -36,9 +37,10 @@
 //! # Tests
 //!
 //! `check_tests` compares this program with cores, over the crate `rows`. The tests of
-//! `executor_model`, and of `executor_core` by itself, stand in `src/tests/cores`.
+//! `executor_model`, and of `executor_core` by itself, stand in `core_tests`.
 #![tactic(auto)]
 
+mod calls;
 mod ends;
 mod history;
 mod kept;
@@ -47,10 +49,9 @@ mod queue;
 mod table;
 mod tasks;
 mod telling;
-#[cfg(test)]
-mod tests;
 mod tracing;
 
+pub use calls::planned_calls;
 pub use ends::ends_after;
 pub use history::Past;
 pub use table::answer_after;

@@ -18,7 +18,7 @@
 //!
 //! # Tests
 //!
-//! That of the lines above stands in `plan_tests`, all others in the crates that use it.
+//! That of the lines above stands in `compile_tests`, all others in the crates that use it.
 #![tactic(auto)]
 
 use std::alloc::{Allocator, Global};

@@ -71,7 +71,7 @@
 //! edits away (`IsNear`).
 //!
 //! Which fault an [`EventFault`] tells, which of the words that are near is told, and the text of a reason are only tested, in
-//! `check_tests`.
+//! `reason_tests`.
 //!
 //! # Memory and cost
 //!

@@ -89,7 +89,7 @@
 //!
 //! # Tests
 //!
-//! They stand in `src/tests.rt` and below it: rows of what is done and what is told. Each row is played with ample memory, and
+//! They stand in `live_tests`, as rows of what is done and what is told. Each row is played with ample memory, and
 //! again with each growth that it asks for refused in turn.
 #![tactic(auto)]
 
@@ -113,8 +113,6 @@ mod spent;
 mod submissions;
 mod submitting;
 mod sweeps;
-#[cfg(test)]
-mod tests;
 
 pub use answers::Submitted;
 pub use error::{CallError, LinesError, MakeError};

@@ -49,7 +49,7 @@
 //!
 //! # Tests
 //!
-//! `run_tests` compares it with the executor of `live_core`: on all sequences of so many lines over several alphabets, and on
+//! `live_run_tests` compares it with the executor of `live_core`: on all sequences of so many lines over several alphabets, and on
 //! sequences that are drawn.
 #![tactic(auto)]
 

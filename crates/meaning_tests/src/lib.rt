@@ -1,4 +1,4 @@
-//! Tests.
+//! Tests of times, and of codes: what is submitted by their walk, and which are refused.
 #![tactic(auto)]
 
 #[cfg(test)]

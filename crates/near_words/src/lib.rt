@@ -38,7 +38,7 @@
 //! - Where a word is the same but for the case of ASCII letters, no others are told (`IsSameBut`).
 //! - At most three are told.
 //!
-//! That words are told, and which of those that are near, and the escapes are only tested, in `check_tests`.
+//! That words are told, and which of those that are near, and the escapes are only tested, in `reason_tests`.
 //!
 //! # Memory and cost
 //!

@@ -61,7 +61,7 @@
 //! [`Submissions`] takes no memory: it walks over blocks, iterations and calls. Each step costs the same; a block without
 //! submissions is walked over iteration by iteration.
 //!
-//! The tests stand in `plan_tests`, with those of plan texts, a file for each topic.
+//! The tests stand in `compile_tests`, with those of plan texts, a file for each topic.
 #![tactic(auto)]
 
 mod compiling;

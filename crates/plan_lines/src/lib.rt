@@ -32,7 +32,7 @@
 //! # What is proved
 //!
 //! That lines and columns are counted as `specs/Lines.antt` says, and that a line which is told is one of the text. That the place
-//! stands on that line is only tested, in `check_tests`.
+//! stands on that line is only tested, in `reason_tests`.
 //!
 //! # Memory and cost
 //!

@@ -74,7 +74,7 @@
 //! - The most blocks and the most calls, of a block and in all, are those of `plan_read` ([`limits_agree`]).
 //!
 //! That a key is told, and which of those at which a fault of its kind may be, what is told to be wanted, the keys and the words
-//! of a choice among it, and the text of a reason are only tested, in `check_tests`.
+//! of a choice among it, and the text of a reason are only tested, in `reason_tests`.
 //!
 //! # Memory and cost
 //!

@@ -27,7 +27,7 @@
 //!
 //! # Tests
 //!
-//! Here stands that of the example. The rest is tested through the core of a plan, in `executor_plain`.
+//! That of the example stands in `core_tests`. The rest is tested through the core of a plan.
 #![tactic(auto)]
 
 mod queue;
@@ -35,8 +35,6 @@ mod slots;
 mod table;
 mod tallies;
 mod tasks;
-#[cfg(test)]
-mod tests;
 
 pub use queue::PlanQueue;
 pub use table::{PlanTable, plan_table};

@@ -1,7 +1,7 @@
-//! Tests of the book and the pool of workers, and of runs by it.
+//! Tests of the pool of workers.
 #![tactic(auto)]
 
 #[cfg(test)]
-mod books;
+mod pool;
 #[cfg(test)]
-mod pool_runs;
+mod told;

@@ -1,11 +1,6 @@
-//! Tests of the program and of what it stands on: the command line, its help, the files, the lines of errors, whole programs, pictures and
-//! lints, in the world of `world.rt`.
+//! Tests of the program, in the world of `world.rt`: sessions, help, files, pictures, lints.
 #![tactic(auto)]
 
-#[cfg(test)]
-mod command_lines;
-#[cfg(test)]
-mod error_lines;
 #[cfg(test)]
 mod files;
 #[cfg(test)]
@@ -15,8 +10,6 @@ mod lints;
 #[cfg(test)]
 mod live_lines;
 #[cfg(test)]
-mod memory;
-#[cfg(test)]
 mod one_delay;
 #[cfg(test)]
 mod pictures;
@@ -24,7 +17,5 @@ mod pictures;
 mod programs;
 #[cfg(test)]
 mod sessions;
-#[cfg(test)]
-mod usage;
 #[cfg(test)]
 mod world;

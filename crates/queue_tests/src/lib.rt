@@ -1,4 +1,4 @@
-//! Tests.
+//! Tests of the queues of slots and of delays, beside plain ones.
 #![tactic(auto)]
 
 #[cfg(test)]

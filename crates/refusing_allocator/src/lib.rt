@@ -38,7 +38,7 @@
 //!
 //! # Tests
 //!
-//! That of the lines above stands in `run_tests`, all others in the crates that use it, each of which refuses growths that are
+//! That of the lines above stands in `end_tests`, all others in the crates that use it, each of which refuses growths that are
 //! told, and gives back all that it took.
 #![tactic(auto)]
 

@@ -25,8 +25,8 @@
 //! # Tests
 //!
 //! In `check_tests` the core and the plain program answer the events, and each front of the trace is checked;
-//! `run_tests` runs from bytes to bytes, and checks what it ran, also with the plan migrated. `pool_tests` goes over
-//! them with a book and with a pool.
+//! `run_tests` runs from bytes to bytes, and checks what it ran, also with the plan migrated. `book_tests` goes over
+//! them with a book, `pool_run_tests` with a pool.
 #![tactic(auto)]
 
 ghost use Rattle.std.specs.Prelude.{◌≡◌, ◌<◌, ◌≤◌, [], length};

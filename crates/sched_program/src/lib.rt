@@ -16,7 +16,7 @@
 //! shows help. [`serve`] opens the files that are named and does a command's work: that of a pool, of a lint ([`lint_files`]), or what one
 //! thread does ([`answer_alone`]). All but a pool's work waits for no other thread, and returns.
 //!
-//! The tests stand in `program_tests`.
+//! The tests stand in `program_tests`, those of the lines of errors in `command_tests`.
 #![tactic(auto)]
 
 mod answer;

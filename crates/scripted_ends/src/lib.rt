@@ -32,7 +32,7 @@
 //!
 //! # Tests
 //!
-//! That of the lines above stands in `run_tests`, all others in the crates that use it.
+//! That of the lines above stands in `end_tests`, all others in the crates that use it.
 #![tactic(auto)]
 
 mod giving;

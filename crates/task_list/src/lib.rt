@@ -40,7 +40,7 @@
 //!
 //! [`write_tasks`] takes the plan, and 64 KiB for the text that is not written yet, however often a block is made.
 //!
-//! The tests stand in `plan_tests`.
+//! The tests stand in `compile_tests`.
 #![tactic(auto)]
 
 mod page;

@@ -62,7 +62,7 @@
 //!
 //! # Tests
 //!
-//! They stand in `src/tests.rt` and below it: the lines above, a thousand tasks whose slots are used again, each growth refused in
+//! They stand in `timer_tests`: the lines above, a thousand tasks whose slots are used again, each growth refused in
 //! turn, and calls that are refused.
 #![tactic(auto)]
 
@@ -75,8 +75,6 @@ mod runs;
 mod shutting;
 mod submissions;
 mod submitting;
-#[cfg(test)]
-mod tests;
 mod timers;
 
 pub use answers::{Finished, Run};

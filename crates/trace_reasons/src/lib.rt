@@ -69,7 +69,7 @@
 //! to stand there does stand there; that a fault is told exactly of a line that is none; that each line which is told could stand
 //! there: the lines before it with this one behind them break neither at it nor before it (`CouldStand`); that there are three at
 //! most, no two of them equal; and that the numbers of workers are those with which the text conforms, in ascending order. Which
-//! lines are told, that any is, which fault it is, and the text of a reason are only tested, in `check_tests`.
+//! lines are told, that any is, which fault it is, and the text of a reason are only tested, in `reason_tests`.
 //!
 //! # Memory and cost
 //!

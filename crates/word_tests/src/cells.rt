@@ -201,7 +201,7 @@ fn notes_of_one_cell_agree(rt: HostRuntime) -> Result<(), Fail> {
 }
 
 // Reads the cell of a task by the note of that task, for a caller with a cell and a note for each task.
-#[tactic(auto, using(crate::proofs::Notes::known_elsewhere))]
+#[tactic(auto, using(result_cell::proofs::Notes::known_elsewhere))]
 fn read_of(cells: &[ResultCell], notes: &mut Vec<Note<Verdict>>, task: u32) -> Option<Verdict>
     requires below { task < length cells.now }
     requires notes { AreNotesOf notes.old.items cells.now }

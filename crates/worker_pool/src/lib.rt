@@ -39,7 +39,7 @@
 //!
 //! `N` is a [`Named`], by which contracts tell of which words, cells, calls and workers a book is. It has no functions: a
 //! caller picks [`Brand`], as `run_code` does, and says in the proof of that function which they are
-//! (`pool_tests/proofs/books/usage/run_code`).
+//! (`book_tests/proofs/books/usage/run_code`).
 //!
 //! # Behaviour
 //!
@@ -95,7 +95,7 @@
 //!
 //! # Tests
 //!
-//! They stand in `pool_tests`: rows of calls, with their answers and lines. Each growth of such a row is refused in
+//! They stand in `book_tests` and `pool_tests`: rows of calls, with their answers and lines. Each growth of such a row is refused in
 //! turn, and all others are granted (over the crate `refusing_allocator`): [`Shared::new`], [`Book::new`],
 //! [`Book::apply`], [`Book::note_cancels`], [`Book::admit`] and [`Book::retire`] then tell [`PoolError::Memory`], and each
 //! other call what it tells with ample memory; the refused call is made again, and the lines are those of the row; and no byte

@@ -1,13 +1,13 @@
 //! Traces with one byte changed, left out or doubled, at each place, and with one line left out, doubled or put behind the
 //! next one, beside the slow program.
-ghost use Rattle.std.specs.Prelude.{◌≡◌, ◌<◌, length, IfOk};
+ghost use Rattle.std.specs.Prelude.{◌<◌, length, IfOk};
 ghost use Rattle.queue_code.specs.Calls.{IsPlanned};
-ghost use Rattle.queue_code.specs.Codes.{calls_of};
 
 use super::plainly::plain_finding;
 use super::*;
+use executor_plain::planned_calls;
 use plan_compile::compile;
-use queue_code::{Code, CodeCall, Cursor};
+use queue_code::CodeCall;
 use rows::Row;
 use rows::cancels::A_CANCEL_OF_A_RUN;
 use rows::policies::POLICIES_THAT_SWEEP;
@@ -224,7 +224,7 @@ fn calls_of_plan(alloc: Global, plan: &Plan<Global>) -> Result<Vec<(u64, CodeCal
 {
     let code = compile(alloc, plan)?;
     let count = code.calls();
-    let made = made_by(alloc, &code)?;
+    let made = planned_calls(alloc, &code)?;
     if made.len() != count as usize {
         return Err(Fail::from("another number of calls"));
     }
@@ -261,77 +261,50 @@ fn finds_changes(
     finds_trace_changes(rt, &plan, &made, row, conforming)
 }
 
-/// The value of the last line may be 0 as well, and 99.
-#[test]
-fn of_a_sweep(rt: HostRuntime) -> Result<(), Fail> {
-    let calls =
-        "0 execute false\n0 submit 0 once 1\n0 submit 1 once 100\n0 submit 2 rate 3 3\n5 shutdown\n6 shutdown\n6 ask\n";
-    finds_changes(&rt, &A_SWEEP, calls, 2)
-}
-
-/// The last clock may show 9 as well, and 44.
-#[test]
-fn of_policies_that_sweep(rt: HostRuntime) -> Result<(), Fail> {
-    let calls =
+/// A row, its calls as `calls_text` writes them, and how many of the texts that differ from its trace by one byte conform.
+const ROWS: &[(Row, &str, usize)] = &[
+    // The value of the last line may be 0 as well, and 99.
+    (
+        A_SWEEP,
+        "0 execute false\n0 submit 0 once 1\n0 submit 1 once 100\n0 submit 2 rate 3 3\n5 shutdown\n6 shutdown\n6 ask\n",
+        2,
+    ),
+    // The last clock may show 9 as well, and 44.
+    (
+        POLICIES_THAT_SWEEP,
         "0 continue true\n0 submit 0 rate 5 5\n0 submit 1 once 9\n1 shutdown\n2 cancel 1\n2 ask\n3 execute false\n3 ask\n\
-            4 continue false\n4 ask\n";
-    finds_changes(&rt, &POLICIES_THAT_SWEEP, calls, 2)
-}
-
-/// The last clock may show 9 as well, and 44.
-#[test]
-fn of_a_shutdown_at_once(rt: HostRuntime) -> Result<(), Fail> {
-    let calls =
+            4 continue false\n4 ask\n",
+        2,
+    ),
+    // The last clock may show 9 as well, and 44.
+    (
+        A_SHUTDOWN_AT_ONCE,
         "0 submit 0 once 9\n0 submit 1 rate 2 0\n0 submit 2 once 0\n0 submit 3 once 7\n1 cancel 3\n2 shutdown now\n2 ask\n\
-            3 continue true\n4 submit 4 once 0\n";
-    finds_changes(&rt, &A_SHUTDOWN_AT_ONCE, calls, 2)
-}
+            3 continue true\n4 submit 4 once 0\n",
+        2,
+    ),
+    // The last clock may show 9 as well, and 33.
+    (
+        A_SHUTDOWN_AT_ONCE_AFTER_A_SHUTDOWN,
+        "0 submit 0 rate 5 5\n0 continue true\n1 shutdown\n2 shutdown now\n3 shutdown\n3 shutdown now\n",
+        2,
+    ),
+    (
+        AN_ENDED_RUN,
+        "0 submit 0 fixed 4 0\n1 shutdown\n2 continue true\n9 continue false\n",
+        0,
+    ),
+    (A_CANCEL_OF_A_RUN, "0 submit 0 rate 5 0\n", 0),
+    // The value 2 may be 0, 9 and 22 as well.
+    (ERRORS, "0 submit 0 once 0\n", 3),
+    // The last run may be worker 0's as well.
+    (TWO_WORKERS, "0 submit 0 rate 10 10\n", 1),
+];
 
-/// The last clock may show 9 as well, and 33.
 #[test]
-fn of_shutdowns_of_both_kinds(rt: HostRuntime) -> Result<(), Fail> {
-    let calls =
-        "0 submit 0 rate 5 5\n0 continue true\n1 shutdown\n2 shutdown now\n3 shutdown\n3 shutdown now\n";
-    finds_changes(&rt, &A_SHUTDOWN_AT_ONCE_AFTER_A_SHUTDOWN, calls, 2)
-}
-
-#[test]
-fn of_an_ended_run(rt: HostRuntime) -> Result<(), Fail> {
-    let calls = "0 submit 0 fixed 4 0\n1 shutdown\n2 continue true\n9 continue false\n";
-    finds_changes(&rt, &AN_ENDED_RUN, calls, 0)
-}
-
-#[test]
-fn of_a_cancel_from_outside(rt: HostRuntime) -> Result<(), Fail> {
-    let calls = "0 submit 0 rate 5 0\n";
-    finds_changes(&rt, &A_CANCEL_OF_A_RUN, calls, 0)
-}
-
-/// The value 2 may be 0, 9 and 22 as well.
-#[test]
-fn of_errors(rt: HostRuntime) -> Result<(), Fail> {
-    let calls = "0 submit 0 once 0\n";
-    finds_changes(&rt, &ERRORS, calls, 3)
-}
-
-/// The last run may be worker 0's as well.
-#[test]
-fn of_two_workers(rt: HostRuntime) -> Result<(), Fail> {
-    let calls = "0 submit 0 rate 10 10\n";
-    finds_changes(&rt, &TWO_WORKERS, calls, 1)
-}
-
-/// The calls that a code makes, one after the other.
-pub fn made_by<A: Allocator + Copy>(
-    alloc: A,
-    code: &Code<A>,
-) -> Result<Vec<(u64, CodeCall), A>, AllocError>
-    ensures { IfOk result (λ calls. calls.items ≡ calls_of code.now) }
-{
-    let mut calls = Vec::new(alloc);
-    let mut cursor = Cursor::new(code);
-    while let Some(planned) = cursor.fetch(code) {
-        calls.push(planned)?;
+fn of_each_row(rt: HostRuntime) -> Result<(), Fail> {
+    for (row, calls, conforming) in ROWS {
+        finds_changes(&rt, row, calls, *conforming)?;
     }
-    Ok(calls)
+    Ok(())
 }

@@ -1,10 +1,9 @@
 //! The rows of the crate `rows`: a core and the plain program give the lines of the trace for the events, each front of the
 //! trace conforms, and so does no text that ends in a line of it that is cut short or goes on.
-use super::changes::made_by;
 use super::*;
 use executor_core::{Core, CoreError};
 use executor_model::{Event, Line};
-use executor_plain::trace;
+use executor_plain::{planned_calls, trace};
 use plan_compile::compile;
 use queue_code::Code;
 use rows::{Row, TOPICS, topic};
@@ -77,7 +76,7 @@ fn plain_gives(rt: &(impl AllocGlobal + Abort), row: &Row) -> Result<(), Fail> {
     let code = code_of(rt.alloc(), row)?;
     // The calls are in order, as the plain program asks.
     let _count = code.calls();
-    let made = made_by(rt.alloc(), &code)?;
+    let made = planned_calls(rt.alloc(), &code)?;
     let events = events_of(rt, row)?;
     is_trace(rt, row, &trace(rt.alloc(), &made, row.workers, &events)?)
 }

@@ -1,5 +1,5 @@
 use Rattle.std.proofs.Common.{sym, ap, ◌∙◌}
-use Rattle.word_tests.proofs.Notes.{length_notes, set_note, known_here}
+use Rattle.result_cell.proofs.Notes.{length_notes, set_note, known_here}
 use Rattle.word_tests.proofs.cells.read_of.Goals as goal
 
 pub returns-clause-notes : goal.returns-clause-notes

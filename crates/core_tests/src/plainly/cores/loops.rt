@@ -1,0 +1,45 @@
+//! What cores of codes with loops take.
+use super::calls::core_over;
+use super::give;
+use executor_core::Core;
+use executor_model::Event;
+use linked_list_allocator::LocalHeap;
+use queue_code::Instr;
+use std::alloc::{AllocGlobal, Allocator};
+use std::process::Abort;
+use std::test::Fail;
+
+/// How many lines a core answers to a clock behind its calls.
+fn lines_to_clock<A: Allocator>(rt: &impl AllocGlobal, core: &mut Core<A>) -> Result<usize, Fail> {
+    let mut out = Vec::new(rt.alloc());
+    give(core, &[Event::Clock(65_536)], &mut out)?;
+    Ok(out.len())
+}
+
+/// A core over a heap that asks this many times.
+fn asking_core(heap: &LocalHeap, times: u32) -> Result<Core<&LocalHeap>, Fail> {
+    core_over(
+        heap,
+        &[Instr::Loop(times, 1), Instr::Ask(0), Instr::EndLoop],
+        1,
+        9,
+    )
+}
+
+/// How much of a heap of its own a core takes that asks this many times, as much after it has asked as before.
+fn used_by_loop(rt: &(impl AllocGlobal + Abort), times: u32) -> Result<usize, Fail> {
+    let heap = LocalHeap::new(rt.alloc(), 1 << 10)?;
+    let mut core = asking_core(&heap, times)?;
+    let used = heap.used();
+    let lines = lines_to_clock(rt, &mut core)?;
+    assert!(rt; lines == times as usize + 1);
+    assert!(rt; heap.used() == used);
+    Ok(used)
+}
+
+#[test]
+fn memory_does_not_grow_with_the_iterations(rt: HostRuntime) -> Result<(), Fail> {
+    let many = used_by_loop(&rt, 65_536)?;
+    assert!(rt; many == used_by_loop(&rt, 1)?);
+    Ok(())
+}

@@ -1,0 +1,5 @@
+//! Tests of runs by a pool.
+#![tactic(auto)]
+
+#[cfg(test)]
+mod pool_runs;

@@ -1,5 +1,0 @@
-//! Tests of the timers.
-mod growths;
-mod many;
-mod refusals;
-mod usage;
