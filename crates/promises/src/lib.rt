@@ -8,6 +8,7 @@
 mod calls;
 mod cores;
 mod live;
+mod pictures;
 mod plans;
 mod pools;
 mod reasons;
@@ -16,9 +17,10 @@ mod texts;
 
 pub use calls::make_call;
 pub use cores::{event, full, happen};
-pub use live::schedule;
+pub use live::{run as run_live, schedule};
+pub use pictures::{draw, picture, place};
 pub use plans::{migrate, read_plan};
 pub use pools::run_pool;
 pub use reasons::{reason_of, reason_of_events, reason_of_trace};
-pub use runs::{run, run_in_memory, write_listing};
+pub use runs::{run, run_and_check, run_in_memory, write_listing, write_tasks};
 pub use texts::{put_line, read_event, read_line, split_event, split_line, write_line};

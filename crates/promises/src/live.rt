@@ -2,9 +2,15 @@
 ghost use Rattle.std.specs.Prelude.{◌≡◌, ◌+◌, IfOk, IfErr, OnOk, OnErr};
 ghost use Rattle.live_core.specs.Lives.{StaysQuiet};
 ghost use Rattle.live_core.specs.Said.{Submits, IsSubmitError};
+ghost use Rattle.live_engine.specs.LiveRuns.{Ran};
+ghost use Rattle.sched_engine.specs.Running.{CountsReader, CountsWriter};
 ghost use Rattle.sched_time.specs.declared.timing.Timing.TheVariants as timings;
 
+use byte_ends::{Sink, Source};
+use call_journal::Journal;
 use live_core::{CallError, ScheduledExecutor, Submitted};
+use live_engine::LiveReport;
+use sched_engine::RunError;
 use std::alloc::Allocator;
 
 /// [`ScheduledExecutor::schedule`].
@@ -20,4 +26,33 @@ pub fn schedule<A: Allocator>(
         (λ error. IsSubmitError executor.old at timings.Once delay error) }
 {
     executor.schedule(at, delay)
+}
+
+/// [`live_engine::run`].
+pub fn run<A: Allocator, S: Source, W: Sink>(
+    alloc: A,
+    workers: u8,
+    journal: &mut Journal<A>,
+    reader: &mut S,
+    writer: &mut W,
+) -> Result<LiveReport, RunError>
+where
+    A: Copy,
+    ensures ran { Ran result workers
+        (record {
+          left = S.remaining reader.old;
+          contents = W.contents writer.old;
+          journal = journal.old;
+        })
+        (record {
+          left = S.remaining reader.new;
+          contents = W.contents writer.new;
+          journal = journal.new;
+        }) }
+    ensures read { CountsReader result (S.failed reader.old) (S.fruitless reader.old)
+        (S.failed reader.new) (S.fruitless reader.new) }
+    ensures write { CountsWriter result (W.failed writer.old) (W.fruitless writer.old)
+        (W.failed writer.new) (W.fruitless writer.new) }
+{
+    live_engine::run(alloc, workers, journal, reader, writer)
 }

@@ -1,10 +1,15 @@
-//! What a run of a plan promises, and the writer of listings.
+//! What a run of a plan promises, its audit, and the writers of listings.
+ghost use Rattle.std.specs.Prelude.{◌≡◌, IfOk, IfErr};
+ghost use Rattle.sched_audit.specs.Audits.{FindsByText, HasNoAudit, IsWhole};
 ghost use Rattle.sched_engine.specs.Running.{CountsReader, CountsWriter, Ran, RanInMemory};
 ghost use Rattle.sched_engine.specs.CodeTexts.{CountsListing, Listed};
+ghost use Rattle.task_list.specs.Writing.{TasksWritten};
 
 use byte_ends::{Sink, Source};
 use plan_read::HeapAllocator;
+use sched_audit::{Audit, AuditError};
 use sched_engine::{ListingError, Report, RunError};
+use trace_check::Finding;
 
 /// [`sched_engine::run`].
 pub fn run<A: HeapAllocator, S: Source, W: Sink>(
@@ -49,4 +54,38 @@ pub fn write_listing<A: HeapAllocator, W: Sink>(
         (W.failed writer.new) (W.fruitless writer.new) }
 {
     sched_engine::write_listing(alloc, plan_text, writer)
+}
+
+/// [`task_list::write_tasks`].
+pub fn write_tasks<A: HeapAllocator, W: Sink>(
+    alloc: A,
+    plan_text: &[u8],
+    writer: &mut W,
+) -> Result<(), ListingError>
+    ensures tasks { TasksWritten result plan_text.now (W.contents writer.old)
+        (W.contents writer.new) }
+    ensures write { CountsListing result (W.failed writer.old) (W.fruitless writer.old)
+        (W.failed writer.new) (W.fruitless writer.new) }
+{
+    task_list::write_tasks(alloc, plan_text, writer)
+}
+
+/// [`sched_audit::run_and_check`].
+pub fn run_and_check<A: HeapAllocator>(
+    alloc: A,
+    plan_text: &[u8],
+    workers: u8,
+    limit: u32,
+    input: &[u8],
+) -> Result<Audit<A>, AuditError>
+    ensures ran { IfOk result
+        (λ audit. RanInMemory audit.answer plan_text.now workers limit input.now
+        audit.trace.items) }
+    ensures whole { IfOk result (λ audit. IsWhole audit.answer) }
+    ensures finds { IfOk result
+        (λ audit. FindsByText plan_text.now workers audit.trace.items audit.finding) }
+    ensures conforms { IfOk result (λ audit. audit.finding ≡ Finding.Conforms) }
+    ensures fails { IfErr result (λ e. HasNoAudit e plan_text.now workers limit input.now) }
+{
+    sched_audit::run_and_check(alloc, plan_text, workers, limit, input)
 }

@@ -46,11 +46,18 @@ fn instr_of(words: Words<'_>) -> Result<Instr, Fail> {
     }
 }
 
+/// Adds the instruction of a line.
+fn add_instr(instrs: &mut Vec<Instr>, line: &str) -> Result<(), Fail> {
+    let instr = instr_of(read_words(line)?)?;
+    instrs.extend_from_slice(&[instr])?;
+    Ok(())
+}
+
 /// The instructions of these calls.
 pub fn instrs_of(alloc: Global, calls: &str) -> Result<Vec<Instr>, Fail> {
     let mut instrs = Vec::new(alloc);
     for line in calls.lines() {
-        instrs.push(instr_of(read_words(line)?)?)?;
+        add_instr(&mut instrs, line)?;
     }
     Ok(instrs)
 }

@@ -66,9 +66,14 @@ pub fn tells(
     for fact in facts.split(" | ") {
         let (key, _) = fact.split_once(' ').ok_or("no fact")?;
         let told = fact_of(rt.alloc(), core, key, lines)?;
-        assert!(rt; told.as_str() == fact, "{fact}: {told}");
+        is_told(rt, told.as_str(), fact);
     }
     Ok(())
+}
+
+/// Checks that this is told.
+fn is_told(rt: &impl Abort, told: &str, fact: &str) {
+    assert!(rt; told == fact, "{fact}: {told}");
 }
 
 /// What a core tells: the words, whom the next call would end, or its room.
