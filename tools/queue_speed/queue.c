@@ -1,4 +1,5 @@
-/* How long the calls of a delay queue take, in nanoseconds each: the proved one, or an indexed binary heap by hand.
+/* How long the calls of a delay queue take, in nanoseconds each: the proved one, or an indexed heap by hand, binary unless WAYS
+ * says how many entries stand below each.
  *
  *     queue proved|checked|heap ENTRIES
  *
@@ -12,9 +13,13 @@
 #include <string.h>
 #include <time.h>
 
+#ifndef WAYS
+#define WAYS 2
+#endif
+
 typedef struct { uint64_t due; uint32_t task; } entry;
 
-/* The heap by hand: entries in the order of a binary heap, and the place of each task's entry. */
+/* The heap by hand: entries in the order of a heap, and the place of each task's entry. */
 typedef struct { entry *entries; uint32_t *place; uint32_t count; } heap;
 
 enum { ABSENT = UINT32_MAX };
@@ -25,7 +30,7 @@ static void put(heap *h, uint32_t at, entry e) { h->entries[at] = e; h->place[e.
 
 static void rise(heap *h, uint32_t at, entry e) {
     while (at > 0) {
-        uint32_t up = (at - 1) / 2;
+        uint32_t up = (at - 1) / WAYS;
         if (!before(e, h->entries[up])) break;
         put(h, at, h->entries[up]);
         at = up;
@@ -33,11 +38,24 @@ static void rise(heap *h, uint32_t at, entry e) {
     put(h, at, e);
 }
 
+/* The place of the least of the entries right below one, of which this is the first. */
+static uint32_t least_from(const heap *h, uint32_t down) {
+#if WAYS == 2
+    return down + 1 < h->count && before(h->entries[down + 1], h->entries[down]) ? down + 1 : down;
+#else
+    uint32_t end = h->count - down < WAYS ? h->count : down + WAYS, least = down;
+    for (uint32_t other = down + 1; other < end; other++) {
+        if (before(h->entries[other], h->entries[least])) least = other;
+    }
+    return least;
+#endif
+}
+
 static void sink(heap *h, uint32_t at, entry e) {
     for (;;) {
-        uint32_t down = 2 * at + 1;
+        uint32_t down = WAYS * at + 1;
         if (down >= h->count) break;
-        if (down + 1 < h->count && before(h->entries[down + 1], h->entries[down])) down++;
+        down = least_from(h, down);
         if (!before(h->entries[down], e)) break;
         put(h, at, h->entries[down]);
         at = down;
@@ -57,7 +75,7 @@ static bool heap_remove(heap *h, uint32_t task) {
     h->place[task] = ABSENT;
     entry last = h->entries[--h->count];
     if (at == h->count) return true;
-    if (at > 0 && before(last, h->entries[(at - 1) / 2])) rise(h, at, last);
+    if (at > 0 && before(last, h->entries[(at - 1) / WAYS])) rise(h, at, last);
     else sink(h, at, last);
     return true;
 }

@@ -1,7 +1,7 @@
 /* Timers as a C programmer writes them by hand, behind the names of include/timers.h: nothing of it is proved.
  *
- * A slab holds the tasks by their slots. Those that wait stand in a binary heap by due moment and number, and the place of each
- * there is known, so that a cancel takes it out at once. The tasks that are kept after a cancel stand in a second heap. The lines
+ * A slab holds the tasks by their slots. Those that wait stand in a heap by due moment and number, binary unless WAYS says how
+ * many entries stand below each, and the place of each is known, so that a cancel takes it out at once. The tasks that are kept after a cancel stand in a second heap. The lines
  * of the last call are written when they are asked for.
  */
 #include "timers.h"
@@ -11,6 +11,10 @@
 #include <stdio.h>
 #include <stdlib.h>
 #include <string.h>
+
+#ifndef WAYS
+#define WAYS 2
+#endif
 
 #define LONGEST (UINT64_C(1) << 62)
 #define MOST_WORKERS 64
@@ -95,7 +99,7 @@ static void put(struct timers *t, struct heap *heap, uint32_t place, struct entr
 
 static void rise(struct timers *t, struct heap *heap, uint32_t place, struct entry entry) {
     while (place > 0) {
-        uint32_t parent = (place - 1) / 2;
+        uint32_t parent = (place - 1) / WAYS;
         if (!comes_before(&entry, &heap->entries[parent])) break;
         put(t, heap, place, heap->entries[parent]);
         place = parent;
@@ -103,11 +107,24 @@ static void rise(struct timers *t, struct heap *heap, uint32_t place, struct ent
     put(t, heap, place, entry);
 }
 
+/* The place of the least of the entries right below one, of which this is the first. */
+static uint32_t least_from(const struct heap *heap, uint32_t child) {
+#if WAYS == 2
+    return child + 1 < heap->size && comes_before(&heap->entries[child + 1], &heap->entries[child]) ? child + 1 : child;
+#else
+    uint32_t end = heap->size - child < WAYS ? heap->size : child + WAYS, least = child;
+    for (uint32_t other = child + 1; other < end; other++) {
+        if (comes_before(&heap->entries[other], &heap->entries[least])) least = other;
+    }
+    return least;
+#endif
+}
+
 static void sink(struct timers *t, struct heap *heap, uint32_t place, struct entry entry) {
     for (;;) {
-        uint32_t child = 2 * place + 1;
+        uint32_t child = WAYS * place + 1;
         if (child >= heap->size) break;
-        if (child + 1 < heap->size && comes_before(&heap->entries[child + 1], &heap->entries[child])) child++;
+        child = least_from(heap, child);
         if (!comes_before(&heap->entries[child], &entry)) break;
         put(t, heap, place, heap->entries[child]);
         place = child;
@@ -124,7 +141,7 @@ static void take_out(struct timers *t, struct heap *heap, uint32_t slot) {
     uint32_t place = t->places[slot];
     struct entry entry = heap->entries[--heap->size];
     if (place == heap->size) return;
-    if (place > 0 && comes_before(&entry, &heap->entries[(place - 1) / 2])) rise(t, heap, place, entry);
+    if (place > 0 && comes_before(&entry, &heap->entries[(place - 1) / WAYS])) rise(t, heap, place, entry);
     else sink(t, heap, place, entry);
 }
 

@@ -1,4 +1,2 @@
-pub mod Heaps
 pub mod Queues
-pub mod Touches
 pub mod own

@@ -45,11 +45,10 @@
 //!
 //! # Memory and cost
 //!
-//! A queue takes 20 bytes for each task: 16 for an entry, and 4 for the place of the task's entry in a binary heap. With n
-//! entries, `insert`, `poll` and `remove` compare two entries or move one at most `4 d + 2` times, where d is the number
-//! of binary digits of n; [`touched`](DelayQueue::touched) counts them. The contracts of these calls state the bound, and
-//! that the count grows by as many as the call makes of some heap of these entries (`specs/Touches.antt`). All other calls
-//! take constant time, but for `new`, which goes over the places.
+//! A queue takes 20 bytes for each task: 16 for an entry, and 4 for the place of the task's entry in a heap, each of whose
+//! entries has four below it. With n entries, `insert`, `poll` and `remove` compare two entries or move one at most
+//! `4 d + 2` times, where d is the number of binary digits of n: the contracts of these calls state the bound, and
+//! [`touched`](DelayQueue::touched) counts. All other calls take constant time, but for `new`, which goes over the places.
 //!
 //! # Tests
 //!

@@ -1,7 +1,6 @@
 //! The queue: a queue of slots, one for each task, whose entries have no rank.
 ghost use Rattle.std.specs.Prelude.{◌≡◌, ℕ, ◌+◌, ◌-◌, ◌<◌, ◌≤◌, ◌==◌, true, false, min, Some, None, length, replicate, slice_set, is_some, IfOk, IsOk, IfSome, IfNone};
 ghost use Rattle.delay_queue.specs.Queues.{due_in, entry_count, most_touches, greatest_count, IsLeast, IsEmpty, NoneIsDue, Touches};
-ghost use Rattle.delay_queue.specs.Touches.{insert_touches, take_touches, CountsTouches, RemovalMakes};
 
 use crate::entry::Entry;
 use crate::error::QueueError;
@@ -59,8 +58,6 @@ impl<A: Allocator> DelayQueue<A> {
             ≡ slice_set self.old.entries entry.task (Some entry.due) }
         ensures touched { Touches self.old.touched self.new.touched
             (min 1 (entry_count self.old.entries)) (most_touches (entry_count self.old.entries)) }
-        ensures counted { CountsTouches self.old self.new.touched
-            (λ heap times. times ≡ insert_touches heap entry) }
     {
         self.slots.insert(in_slot(entry));
     }
@@ -96,9 +93,6 @@ impl<A: Allocator> DelayQueue<A> {
             (λ _. Touches self.old.touched self.new.touched
             (min 1 (entry_count self.old.entries - 1))
             (most_touches (entry_count self.old.entries))) }
-        ensures counted { IfSome result
-            (λ _. CountsTouches self.old self.new.touched
-            (λ heap times. times ≡ take_touches heap 0)) }
         ensures untouched { IfNone result (self.new.touched ≡ self.old.touched) }
     {
         Some(of_task(self.slots.poll(now)?))
@@ -114,8 +108,6 @@ impl<A: Allocator> DelayQueue<A> {
         ensures least { (due : ℕ) → IsLeast self.old.entries due task
             → Touches self.old.touched self.new.touched (min 1 (entry_count self.old.entries - 1))
             (most_touches (entry_count self.old.entries)) }
-        ensures counted { result ≡ true
-            → CountsTouches self.old self.new.touched (RemovalMakes task) }
         ensures untouched { result ≡ false → self.new.touched ≡ self.old.touched }
     {
         self.slots.remove(task)

@@ -1,14 +1,8 @@
 -- What the calls on a slot speak of. (All of it is this project's rule.)
 use Rattle.std.specs.Prelude.{◌≡◌, ◌≢◌, ℕ, ◌-◌, ◌≤◌, List, [], ◌∷◌, Some, None, true, min, slice_set}
 use Rattle.delay_queue.specs.Queues.{Queue, entry_count, most_touches, IsLeast, Touches}
-use Rattle.delay_queue.specs.Touches.{insert_touches, take_touches, CountsTouches}
-use Rattle.delay_queue.specs.declared.entry.Entry.{Entry}
 use Rattle.delay_queue_c.specs.Statuses.{done, insert_status}
 use Rattle.delay_queue_c.specs.declared.entry.DqEntry.{DqEntry}
-
--- an entry
-abbrev pub entry : ℕ → ℕ → Entry
-entry due task = record { due = due; task = task }
 
 -- nothing of the queue changed, nor what it counted
 pub record IsSame (before after : Queue) : Type 0 where
@@ -20,7 +14,6 @@ pub record Inserts (before : Queue) (e : DqEntry) (after : Queue) : Type 0 where
   pub admitted : insert_status true before.entries e.task ≡ done
   pub inserted : after.entries ≡ slice_set before.entries e.task (Some e.due)
   pub touched : Touches before.touched after.touched (min 1 (entry_count before.entries)) (most_touches (entry_count before.entries))
-  pub counted : CountsTouches before after.touched (λ heap times. times ≡ insert_touches heap (entry e.due e.task))
 
 -- one after another was added
 abbrev pub InsertsEach : Queue → List DqEntry → Queue → Type 0
@@ -38,7 +31,6 @@ pub record Polls (before : Queue) (now : ℕ) (e : DqEntry) (after : Queue) : Ty
   pub due : e.due ≤ now
   pub removed : after.entries ≡ slice_set before.entries e.task None
   pub touched : Touches before.touched after.touched (min 1 (entry_count before.entries - 1)) (most_touches (entry_count before.entries))
-  pub counted : CountsTouches before after.touched (λ heap times. times ≡ take_touches heap 0)
 
 -- one after another was taken out
 abbrev pub PollsEach : Queue → ℕ → List DqEntry → Queue → Type 0

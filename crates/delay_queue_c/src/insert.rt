@@ -1,8 +1,7 @@
 //! Adding an entry.
 ghost use Rattle.std.specs.Prelude.{◌≡◌, ◌≢◌, ◌<◌, true, min, None, Some, length, slice_set};
 ghost use Rattle.delay_queue.specs.Queues.{due_in, entry_count, most_touches, Touches};
-ghost use Rattle.delay_queue.specs.Touches.{insert_touches, CountsTouches};
-ghost use Rattle.delay_queue_c.specs.Slots.{entry, IsSame};
+ghost use Rattle.delay_queue_c.specs.Slots.{IsSame};
 ghost use Rattle.delay_queue_c.specs.Statuses.{done, insert_status};
 ghost use Rattle.delay_queue_c.specs.own.Told.{number_of};
 
@@ -22,9 +21,6 @@ pub extern "C" fn dq_ref_try_insert(alloc: Global, slot: &mut Slot, due: u64, ta
         → Touches slot.old.held.value.touched slot.new.held.value.touched
         (min 1 (entry_count slot.old.held.value.entries))
         (most_touches (entry_count slot.old.held.value.entries)) }
-    ensures counted { result ≡ done
-        → CountsTouches slot.old.held.value slot.new.held.value.touched
-        (λ heap times. times ≡ insert_touches heap (entry due task)) }
     ensures unchanged { result ≢ done → IsSame slot.old.held.value slot.new.held.value }
 {
     let tasks = slot.tasks;
@@ -46,9 +42,6 @@ pub(crate) fn insert_into(queue: &mut DelayQueue<Global>, tasks: u32, due: u64, 
     ensures touched { number_of result ≡ done
         → Touches queue.old.touched queue.new.touched (min 1 (entry_count queue.old.entries))
         (most_touches (entry_count queue.old.entries)) }
-    ensures counted { number_of result ≡ done
-        → CountsTouches queue.old queue.new.touched
-        (λ heap times. times ≡ insert_touches heap (entry due task)) }
     ensures unchanged { number_of result ≢ done → queue.new ≡ queue.old }
 {
     if task >= tasks {
@@ -73,8 +66,6 @@ pub extern "C" fn dq_insert_unchecked(alloc: Global, slot: &mut Slot, due: u64, 
     ensures touched { Touches slot.old.held.value.touched slot.new.held.value.touched
         (min 1 (entry_count slot.old.held.value.entries))
         (most_touches (entry_count slot.old.held.value.entries)) }
-    ensures counted { CountsTouches slot.old.held.value slot.new.held.value.touched
-        (λ heap times. times ≡ insert_touches heap (entry due task)) }
 {
     let tasks = slot.tasks;
     if let Some(mut queue) = slot.take(alloc) {

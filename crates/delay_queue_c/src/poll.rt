@@ -1,7 +1,6 @@
 //! Taking entries out.
 ghost use Rattle.std.specs.Prelude.{◌≡◌, ◌≢◌, ℕ, ◌-◌, ◌≤◌, ◌⊎◌, true, false, min, None, slice_set};
 ghost use Rattle.delay_queue.specs.Queues.{entry_count, most_touches, IsLeast, NoneIsDue, Touches};
-ghost use Rattle.delay_queue.specs.Touches.{take_touches, CountsTouches, RemovalMakes};
 ghost use Rattle.delay_queue_c.specs.Slots.{IsSame};
 ghost use Rattle.delay_queue_c.specs.Statuses.{done, no_entry, no_queue, look_status};
 
@@ -24,9 +23,6 @@ pub extern "C" fn dq_ref_poll(alloc: Global, slot: &mut Slot, now: u64, out: &mu
         → Touches slot.old.held.value.touched slot.new.held.value.touched
         (min 1 (entry_count slot.old.held.value.entries - 1))
         (most_touches (entry_count slot.old.held.value.entries)) }
-    ensures counted { result ≡ done
-        → CountsTouches slot.old.held.value slot.new.held.value.touched
-        (λ heap times. times ≡ take_touches heap 0) }
     ensures none_due { result ≡ no_entry → NoneIsDue slot.old.held.value.entries now }
     ensures unchanged { result ≢ done → IsSame slot.old.held.value slot.new.held.value }
     ensures unwritten { result ≢ done → out.new ≡ out.old }
@@ -58,8 +54,6 @@ pub extern "C" fn dq_ref_remove(alloc: Global, slot: &mut Slot, task: u32) -> u3
         → Touches slot.old.held.value.touched slot.new.held.value.touched
         (min 1 (entry_count slot.old.held.value.entries - 1))
         (most_touches (entry_count slot.old.held.value.entries)) }
-    ensures counted { result ≡ done
-        → CountsTouches slot.old.held.value slot.new.held.value.touched (RemovalMakes task) }
     ensures unchanged { result ≢ done → IsSame slot.old.held.value slot.new.held.value }
 {
     let tasks = slot.tasks;

@@ -227,11 +227,10 @@ fn no_call_touches_too_often(rt: HostRuntime) -> Result<(), Fail> {
         touches_few(&rt, &mut queue, &mut plain, &call, Yes);
     }
     assert!(rt; most_touches(1023) == 42);
-    // Each entry comes before all that are there, and so rises to the first place: from the place k that is as many as
-    // there are places above it, the whole part of the binary logarithm of k + 1, and each is a comparison and a move.
-    // Twice the sum of these for k + 1 from 1 to 1,024: d for each of the 2^d numbers from 2^d on, which for d from 0 to 9
-    // gives 8 * 1,024 + 2, and 10 for 1,024.
-    assert!(rt; queue.queue.touched() == 2 * (8 * 1_024 + 2 + 10));
+    // Each entry comes before all that are there, and so rises to the first place, by a comparison and a move for each place
+    // above its own. There are none above the first place, 1 above each of the next 4, 2 above each of the next 16, 3 of 64,
+    // 4 of 256, and 5 above each of the 683 that are left.
+    assert!(rt; queue.queue.touched() == 2 * (4 + 2 * 16 + 3 * 64 + 4 * 256 + 5 * 683));
     for number in 0..1024u32 {
         let least = Told::Entry(u64::from(number), 0, 1023 - number);
         touches_few(&rt, &mut queue, &mut plain, &Poll(1023), least);

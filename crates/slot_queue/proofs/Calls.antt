@@ -5,7 +5,7 @@ use Rattle.std.proofs.lemmas.Bool.{false≢true, cases_eq, cases_lt}
 use Rattle.std.proofs.lemmas.List.{get_or_append_left, map-append, set-get_or}
 use Rattle.std.proofs.lemmas.Option.{same_Some, none-some}
 use Rattle.slot_queue.specs.Queues.{Queue, key_in, IsLeast, IsEmpty, NoneIsDue}
-use Rattle.slot_queue.specs.Heaps.{no_entry, entry_at, IsHeap, IsPlaced, key_in_heap, table}
+use Rattle.slot_queue.specs.own.Heaps.{no_entry, entry_at, IsHeap, IsPlaced, key_in_heap, table}
 use Rattle.slot_queue.specs.own.Heaps.{key_with}
 use Rattle.slot_queue.specs.Entries.{Key, Seen, key_of, seen, seen_all, comes_before}
 use Rattle.slot_queue.specs.declared.entry.Entry.{Entry}

@@ -5,7 +5,7 @@ use Rattle.std.proofs.lemmas.Bool.{cases_lt}
 use Rattle.std.proofs.lemmas.List.{take_more, take_all, get_or_push}
 use Rattle.std.proofs.lemmas.List.Sums.{sum_by-set, count_by-le-length}
 use Rattle.slot_queue.specs.Queues.{key_in, entry_count}
-use Rattle.slot_queue.specs.Heaps.{no_entry, entry_at, IsPlaced, key_in_heap, table}
+use Rattle.slot_queue.specs.own.Heaps.{no_entry, entry_at, IsPlaced, key_in_heap, table}
 use Rattle.slot_queue.specs.Entries.{Key, Seen, key_of}
 use Rattle.slot_queue.proofs.Keys.{key_here}
 use Rattle.slot_queue.proofs.Places.{placed_front, noted_last, key_of_last, key_of_front}
@@ -74,3 +74,7 @@ room_left heap places slot p known none =
 -- where another entry is left, it moves
 pub some_touched : (count times : ℕ) → (0 + 1 < count → 0 < times) → min 1 (count - 1) ≤ times
 some_touched count times h = ⊎_elim (λ (more : 1 < count). omega (arith, h (omega arith))) (λ (few : count ≤ 1). omega (arith, few)) (cases_lt 1 count)
+
+-- where there is an entry, one that comes touches it
+pub some_risen : (count times : ℕ) → (0 < count → 0 < times) → min 1 count ≤ times
+some_risen count times h = ⊎_elim (λ (more : 0 < count). omega (arith, h more)) (λ (none : count ≤ 0). omega (arith, none)) (cases_lt 0 count)

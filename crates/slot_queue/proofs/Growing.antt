@@ -5,7 +5,7 @@ use Rattle.std.proofs.lemmas.Bool.{cases_lt}
 use Rattle.std.proofs.lemmas.List.{get_or_append_left, get_or-append_right, get_or-replicate, length-replicate, append-nil, take_all}
 use Rattle.slot_queue.specs.Entries.{Key, Seen}
 use Rattle.slot_queue.specs.Queues.{key_in, with_slots}
-use Rattle.slot_queue.specs.Heaps.{entry_at, IsPlaced, key_if_of, key_in_heap, table}
+use Rattle.slot_queue.specs.own.Heaps.{entry_at, IsPlaced, key_if_of, key_in_heap, table}
 use Rattle.slot_queue.proofs.Keys.{key_apart, key_past}
 use Rattle.slot_queue.proofs.Tables.{length-table, key_in-table, table_is}
 

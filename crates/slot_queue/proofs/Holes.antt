@@ -1,8 +1,8 @@
 -- How the order of a heap stands while entries move into its hole.
-use Rattle.std.proofs.Common.{◌≡◌, ◌≢◌, ℕ, zero, suc, ◌+◌, ◌*◌, ◌<◌, ◌≤◌, ◌⊎◌, ⊎_elim, List, [], ◌∷◌, ◌++◌, set, length, sym, ◌∙◌, ap, subst, subst₂, arith, length-set, length-append}
+use Rattle.std.proofs.Common.{◌≡◌, ◌≢◌, ℕ, zero, suc, ◌+◌, ◌*◌, ◌<◌, ◌≤◌, ⊎_elim, List, [], ◌∷◌, ◌++◌, set, length, sym, ◌∙◌, ap, subst, subst₂, arith, length-set, length-append}
 use Rattle.std.proofs.lemmas.Bool.{cases_eq}
 use Rattle.std.proofs.lemmas.List.{get_or_append_left}
-use Rattle.slot_queue.specs.Heaps.{no_entry, entry_at, parent, IsInHeapOrder, IsHeap}
+use Rattle.slot_queue.specs.own.Heaps.{no_entry, entry_at, parent, IsInHeapOrder, IsHeap}
 use Rattle.slot_queue.specs.own.Heaps.{IsHeapAround, IsAboveChildren}
 use Rattle.slot_queue.specs.Entries.{Seen}
 use Rattle.slot_queue.proofs.Order.{ordered_through, ordered_self}
@@ -105,7 +105,7 @@ heap_filled heap hole x inside around above below =
     }
 
 -- nothing stands below the last places
-pub above_lowest : (heap : List Seen) (hole : ℕ) (x : Seen) → length heap ≤ 2 * hole + 1 → IsAboveChildren heap hole x
+pub above_lowest : (heap : List Seen) (hole : ℕ) (x : Seen) → length heap ≤ 4 * hole + 1 → IsAboveChildren heap hole x
 above_lowest heap hole x low k some short same = absurd (omega arith)
 
 -- each place of a heap may be its hole
@@ -140,21 +140,15 @@ first_is_least heap (suc turns) k small inside is =
     (first_is_least heap turns (parent k) (omega arith) (omega arith) is) (is.ordered k (omega arith) inside))
     (cases_eq k 0)
 
--- which of the two entries right below a place is the lesser
-pub lesser_is_least : (heap : List Seen) (hole low : ℕ) → ((low ≡ 2 * hole + 2) × IsInHeapOrder (entry_at heap (2 * hole + 2)) (entry_at heap (2 * hole + 1)))
-    ⊎ ((low ≡ 2 * hole + 1) × IsInHeapOrder (entry_at heap (2 * hole + 1)) (entry_at heap (2 * hole + 2))) → IsAboveChildren heap hole (entry_at heap low)
-lesser_is_least heap hole low which k some short same =
-    let one_of : (f : Seen → Type 0) → f (entry_at heap (2 * hole + 1)) → f (entry_at heap (2 * hole + 2)) → f (entry_at heap k) = λ (f : Seen → Type 0) left right.
-    ⊎_elim
-    (λ (is : k ≡ 2 * hole + 1). subst (λ (n : ℕ). f (entry_at heap n)) (sym is) left)
-    (λ (not : k ≢ 2 * hole + 1). let is : k ≡ 2 * hole + 2 = omega arith in subst (λ (n : ℕ). f (entry_at heap n)) (sym is) right)
-    (cases_eq k (2 * hole + 1))
-    in
-    ⊎_elim
-    (λ (right : (low ≡ 2 * hole + 2) × IsInHeapOrder (entry_at heap (2 * hole + 2)) (entry_at heap (2 * hole + 1))).
-    subst (λ (n : ℕ). IsInHeapOrder (entry_at heap n) (entry_at heap k)) (sym right.0)
-    (one_of (IsInHeapOrder (entry_at heap (2 * hole + 2))) right.1 (ordered_self (entry_at heap (2 * hole + 2)))))
-    (λ (left : (low ≡ 2 * hole + 1) × IsInHeapOrder (entry_at heap (2 * hole + 1)) (entry_at heap (2 * hole + 2))).
-    subst (λ (n : ℕ). IsInHeapOrder (entry_at heap n) (entry_at heap k)) (sym left.0)
-    (one_of (IsInHeapOrder (entry_at heap (2 * hole + 1))) (ordered_self (entry_at heap (2 * hole + 1))) left.1))
-    which
+-- an entry that does not come after each of the four right below a place
+pub above_four : (heap : List Seen) (hole : ℕ) (e : Seen) → IsInHeapOrder e (entry_at heap (4 * hole + 1)) → IsInHeapOrder e (entry_at heap (4 * hole + 2))
+    → IsInHeapOrder e (entry_at heap (4 * hole + 3)) → IsInHeapOrder e (entry_at heap (4 * hole + 4)) → IsAboveChildren heap hole e
+above_four heap hole e one two three four k some short same =
+    let at : (n : ℕ) → k ≡ n → IsInHeapOrder e (entry_at heap n) → IsInHeapOrder e (entry_at heap k) = λ n is order. subst (λ (m : ℕ). IsInHeapOrder e (entry_at heap m)) (sym is) order in
+    ⊎_elim (λ (is : k ≡ 4 * hole + 1). at (4 * hole + 1) is one)
+    (λ (no : k ≢ 4 * hole + 1). ⊎_elim (λ (is : k ≡ 4 * hole + 2). at (4 * hole + 2) is two)
+    (λ (nor : k ≢ 4 * hole + 2). ⊎_elim (λ (is : k ≡ 4 * hole + 3). at (4 * hole + 3) is three)
+    (λ (not : k ≢ 4 * hole + 3). at (4 * hole + 4) (omega arith) four)
+    (cases_eq k (4 * hole + 3)))
+    (cases_eq k (4 * hole + 2)))
+    (cases_eq k (4 * hole + 1))

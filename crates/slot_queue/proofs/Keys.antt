@@ -3,7 +3,7 @@ use Rattle.std.proofs.Common.{◌≡◌, ◌≢◌, ⊎_elim, ℕ, ◌<◌, ◌�
 use Rattle.std.specs.Prelude.{slice_get}
 use Rattle.std.proofs.lemmas.Bool.{cases_lt}
 use Rattle.std.proofs.lemmas.Option.{slice_get-get_or, slice_get_past, same_Some, none-some}
-use Rattle.slot_queue.specs.Heaps.{no_entry, entry_at, key_if_of, key_in_heap}
+use Rattle.slot_queue.specs.own.Heaps.{no_entry, entry_at, key_if_of, key_in_heap}
 use Rattle.slot_queue.specs.Entries.{Key, Seen, key_of}
 
 -- the entry at the noted place is the slot's

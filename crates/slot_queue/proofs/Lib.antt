@@ -7,6 +7,5 @@ pub mod Places
 pub mod Tables
 pub mod Counts
 pub mod Calls
-pub mod Touched
 pub mod Taken
 pub mod Growing

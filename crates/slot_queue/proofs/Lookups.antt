@@ -1,7 +1,7 @@
 -- What is read from a heap after an entry is written.
 use Rattle.std.proofs.Common.{◌≡◌, ◌≢◌, ℕ, ◌<◌, ◌++◌, List, set, take, drop, take_at, length, get_or, sym, ap, ◌∙◌, get_or-set_same, get_or-set_other}
 use Rattle.std.proofs.lemmas.List.{get_or-map, length-map}
-use Rattle.slot_queue.specs.Heaps.{no_entry, entry_at}
+use Rattle.slot_queue.specs.own.Heaps.{no_entry, entry_at}
 use Rattle.slot_queue.specs.Entries.{Seen, seen, seen_all}
 use Rattle.slot_queue.specs.declared.entry.Entry.{Entry}
 

@@ -2,7 +2,7 @@
 use Rattle.std.proofs.Common.{◌≡◌, ◌≤◌, ◌≢◌, true, arith}
 use Rattle.std.proofs.lemmas.Bool.Decides.{nat_tests}
 use Rattle.slot_queue.specs.Entries.{Seen, is_before}
-use Rattle.slot_queue.specs.Heaps.{IsInHeapOrder}
+use Rattle.slot_queue.specs.own.Heaps.{IsInHeapOrder}
 
 -- an entry that comes before another is in order with it
 pub ordered_from_before : (e f : Seen) → is_before e f ≡ true → IsInHeapOrder e f

@@ -2,7 +2,7 @@
 use Rattle.std.proofs.Common.{◌≡◌, ◌≢◌, ⊎_elim, ℕ, ◌+◌, ◌<◌, ◌≤◌, List, [], ◌∷◌, ◌++◌, Some, None, set, length, get_or, refl, sym, ap, subst, subst₂, ◌∙◌, arith, length-set, length-append, get_or-set_same, get_or-set_other}
 use Rattle.std.proofs.lemmas.Bool.{cases_eq, cases_lt}
 use Rattle.std.proofs.lemmas.List.{get_or_append_left, get_or_push}
-use Rattle.slot_queue.specs.Heaps.{no_entry, entry_at, IsPlaced, key_in_heap}
+use Rattle.slot_queue.specs.own.Heaps.{no_entry, entry_at, IsPlaced, key_in_heap}
 use Rattle.slot_queue.specs.own.Heaps.{IsPlacedWith, MovesHole, key_with}
 use Rattle.slot_queue.specs.Entries.{Seen, key_of}
 use Rattle.slot_queue.proofs.Lookups.{at_same, at_other}

@@ -4,7 +4,7 @@ use Rattle.std.proofs.lemmas.Bool.{cases_eq}
 use Rattle.std.proofs.lemmas.List.{get_or_past, length-replicate, get_or-replicate}
 use Rattle.std.proofs.lemmas.List.FromFn.{length-map-range_with_len, get_or-map-range_with_len, fill_by_all}
 use Rattle.slot_queue.specs.Queues.{key_in}
-use Rattle.slot_queue.specs.Heaps.{key_in_heap, table}
+use Rattle.slot_queue.specs.own.Heaps.{key_in_heap, table}
 use Rattle.slot_queue.specs.Entries.{Key, Seen}
 
 -- the table has a place for each slot

@@ -2,7 +2,7 @@
 use Rattle.std.proofs.Common.{◌≡◌, ◌≢◌, ℕ, ◌+◌, ◌<◌, length, arith, List, [], ◌∷◌, ◌++◌, None, sym, ap, subst, subst₂, ◌∙◌, length-append}
 use Rattle.std.proofs.lemmas.List.{get_or_append_left, get_or_push}
 use Rattle.slot_queue.specs.Entries.{Seen}
-use Rattle.slot_queue.specs.Heaps.{no_entry, entry_at, parent, IsInHeapOrder, IsHeap, IsPlaced, key_in_heap}
+use Rattle.slot_queue.specs.own.Heaps.{no_entry, entry_at, parent, IsInHeapOrder, IsHeap, IsPlaced, key_in_heap}
 use Rattle.slot_queue.specs.own.Heaps.{IsHeapAround, IsPlacedWith, key_with}
 use Rattle.slot_queue.proofs.Holes.{around_any}
 use Rattle.slot_queue.proofs.Places.{beside_cut, placed_from_beside, placed_front, key_of_last, key_of_front, key_of_cut, key_of_kept}

@@ -1,5 +1,3 @@
 pub mod Entries
-pub mod Heaps
 pub mod Queues
-pub mod Touches
 pub mod own

@@ -1,13 +1,11 @@
-//! A binary heap in a list, the least entry first, and beside it the place of each slot's entry.
+//! A heap of four children in a list, the least entry first, and beside it the place of each slot's entry.
 //!
-//! An entry at the place `k` is not before the one above it, at `(k - 1) / 2`. Entries move into a hole, whose own entry
+//! An entry at the place `k` is not before the one above it, at `(k - 1) / 4`. Entries move into a hole, whose own entry
 //! does not count, so that each of them is written once.
-ghost use Rattle.std.specs.Prelude.{◌≡◌, ◌≢◌, ℕ, ◌+◌, ◌-◌, ◌*◌, ◌^◌, ◌<◌, ◌≤◌, ◌==◌, if◌then◌else◌, length, slice_index_or, slice_set, vec_capacity, None, IfSome, IfNone};
+ghost use Rattle.std.specs.Prelude.{◌≡◌, ◌≢◌, IsTrue, false, ℕ, ◌+◌, ◌-◌, ◌*◌, ◌^◌, ◌<◌, ◌≤◌, length, slice_set, vec_capacity, None, IfSome, IfNone};
 ghost use Rattle.slot_queue.specs.Entries.{Seen, seen, seen_all};
-ghost use Rattle.slot_queue.specs.Queues.{binary_digits, most_touches};
-ghost use Rattle.slot_queue.specs.Heaps.{entry_at, parent, IsHeap, IsPlaced, key_in_heap};
-ghost use Rattle.slot_queue.specs.own.Heaps.{IsHeapAround, IsAboveChildren, IsPlacedWith, MovesHole, key_with};
-ghost use Rattle.slot_queue.specs.Touches.{moving, sunk_from, risen, replace_touches, take_touches};
+ghost use Rattle.slot_queue.specs.Queues.{most_touches};
+ghost use Rattle.slot_queue.specs.own.Heaps.{entry_at, parent, level, IsInHeapOrder, IsHeap, IsPlaced, key_in_heap, IsHeapAround, IsAboveChildren, IsPlacedWith, IsLeastBelow, MovesHole, key_with};
 
 use crate::entry::Entry;
 use crate::rank::Rank;
@@ -71,14 +69,12 @@ pub(crate) fn rise<R: Rank>(
         ≡ key_with (seen_all R.rank heap.old) places.old hole (seen R.rank entry) slot }
     ensures heap_length { length heap.new ≡ length heap.old }
     ensures places_length { length places.new ≡ length places.old }
-    ensures exact { result
-        ≡ (risen hole (seen R.rank entry) (moving (seen_all R.rank heap.old) hole 0)).touches }
-    ensures touches { let place = slice_index_or places.new entry.slot 0 in result + 2 *
-        binary_digits (place + 1) ≡ 2 * binary_digits (hole + 1) + (if place == 0 then 0 else 1) }
+    ensures many { 0 < hole → 0 < result }
+    ensures few { result ≤ level hole }
 {
     let mut touches = 0;
     while hole > 0 {
-        let parent = (hole - 1) / 2;
+        let parent = (hole - 1) / 4;
         touches += 1;
         if R::is_before(at(heap, parent), entry) {
             break;
@@ -92,7 +88,56 @@ pub(crate) fn rise<R: Rank>(
     touches
 }
 
-/// Lets the hole sink to a place with none below: the lesser of the entries right below it moves up. Says where the hole
+/// Whether the entry at one place is the lesser of it and the one at another place.
+#[inline(always)]
+fn is_lesser<R: Rank>(heap: &[Entry<R>], one: usize, other: usize) -> bool
+    requires one { one < length heap.now }
+    requires other { other < length heap.now }
+    ensures yes { IsTrue result
+        → IsInHeapOrder (entry_at (seen_all R.rank heap.now) one)
+        (entry_at (seen_all R.rank heap.now) other) }
+    ensures no { result ≡ false
+        → IsInHeapOrder (entry_at (seen_all R.rank heap.now) other)
+        (entry_at (seen_all R.rank heap.now) one) }
+{
+    R::is_before(at(heap, one), at(heap, other))
+}
+
+/// The place of the least of the four entries right below the hole. It is added up from the comparisons, so that there is no branch
+/// to guess.
+#[inline(always)]
+fn least_of_four<R: Rank>(heap: &[Entry<R>], hole: usize) -> usize
+    requires four { 4 * hole + 4 < length heap.now }
+    requires few { length heap.now < 2 ^ 32 }
+    ensures { IsLeastBelow (seen_all R.rank heap.now) hole result }
+{
+    let first = 4 * hole + 1;
+    let is_second = is_lesser(heap, first + 1, first);
+    let is_fourth = is_lesser(heap, first + 3, first + 2);
+    let low = first + usize::from(is_second);
+    let high = first + 2 + usize::from(is_fourth);
+    let is_high = is_lesser(heap, high, low);
+    first + 2 * usize::from(is_high) + usize::from(is_high & is_fourth | !is_high & is_second)
+}
+
+/// The place of the least of the entries right below the hole, which are the last ones.
+fn least_of_last<R: Rank>(heap: &[Entry<R>], hole: usize) -> usize
+    requires some { 4 * hole + 1 < length heap.now }
+    requires last { length heap.now ≤ 4 * hole + 4 }
+    requires few { length heap.now < 2 ^ 32 }
+    ensures { IsLeastBelow (seen_all R.rank heap.now) hole result }
+{
+    let first = 4 * hole + 1;
+    let mut least = first;
+    for place in first + 1..heap.len() {
+        if is_lesser(heap, place, least) {
+            least = place;
+        }
+    }
+    least
+}
+
+/// Lets the hole sink to a place with none below: the least of the entries right below it moves up. Says where the hole
 /// is then, and how often it touched the heap: the comparisons, and the entries that moved.
 #[inline(always)]
 fn sink<R: Rank>(heap: &mut [Entry<R>], places: &mut [u32], mut hole: usize) -> (usize, u64)
@@ -103,28 +148,25 @@ fn sink<R: Rank>(heap: &mut [Entry<R>], places: &mut [u32], mut hole: usize) -> 
     ensures moves { MovesHole (seen_all R.rank heap.old) places.old hole (seen_all R.rank heap.new)
         places.new result.0 }
     ensures around { IsHeapAround (seen_all R.rank heap.new) result.0 }
-    ensures exact { moving (seen_all R.rank heap.new) result.0 result.1
-        ≡ sunk_from (seen_all R.rank heap.old) hole }
     ensures heap_length { length heap.new ≡ length heap.old }
-    ensures lowest { length heap.new ≤ 2 * result.0 + 1 }
-    ensures few { result.1 + 2 * binary_digits (hole + 1) ≤ 2 * binary_digits (result.0 + 1) }
-    ensures many { 2 * binary_digits (result.0 + 1) ≤ result.1 + 2 * binary_digits (hole + 1) + 1 }
+    ensures lowest { length heap.new ≤ 4 * result.0 + 1 }
+    ensures few { result.1 + 2 * level hole ≤ 2 * level result.0 }
 {
     let mut touches = 0;
-    while 2 * hole + 2 < heap.len() {
-        let left = 2 * hole + 1;
-        let lesser = left + usize::from(R::is_before(at(heap, left + 1), at(heap, left)));
-        let entry = at(heap, lesser);
+    while 4 * hole + 4 < heap.len() {
+        let least = least_of_four(heap, hole);
+        let entry = at(heap, least);
         put(heap, places, hole, entry);
-        touches += 2;
-        hole = lesser;
+        touches += 4;
+        hole = least;
     }
-    let only = 2 * hole + 1;
-    if only < heap.len() {
-        let entry = at(heap, only);
+    let first = 4 * hole + 1;
+    if first < heap.len() {
+        let least = least_of_last(heap, hole);
+        let entry = at(heap, least);
         put(heap, places, hole, entry);
-        touches += 1;
-        hole = only;
+        touches += (heap.len() - first) as u64;
+        hole = least;
     }
     (hole, touches)
 }
@@ -144,8 +186,7 @@ fn replace<R: Rank>(heap: &mut [Entry<R>], places: &mut [u32], place: usize, ent
         ≡ key_with (seen_all R.rank heap.old) places.old place (seen R.rank entry) slot }
     ensures heap_length { length heap.new ≡ length heap.old }
     ensures places_length { length places.new ≡ length places.old }
-    ensures exact { result ≡ replace_touches (seen_all R.rank heap.old) place (seen R.rank entry) }
-    ensures few { result ≤ 4 * binary_digits (length heap.old) }
+    ensures few { result ≤ most_touches (length heap.old + 1) }
     ensures many { 0 < result }
 {
     let (hole, sunk) = sink(heap, places, place);
@@ -172,7 +213,6 @@ pub(crate) fn take_out<R: Rank, A: Allocator>(
         ≡ key_in_heap (seen_all R.rank heap.old.items) places.old slot }
     ensures room { vec_capacity heap.new ≡ vec_capacity heap.old }
     ensures places_length { length places.new ≡ length places.old }
-    ensures exact { result ≡ take_touches (seen_all R.rank heap.old.items) place }
     ensures few { result ≤ most_touches (length heap.old.items) }
     ensures many { place + 1 < length heap.old.items → 0 < result }
 {

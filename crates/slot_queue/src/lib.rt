@@ -63,11 +63,10 @@
 //! # Memory and cost
 //!
 //! A queue made for n slots takes for each of them 20 bytes, and 28 with a `u64` as rank: an entry, and 4 bytes for its
-//! place in a binary heap. A queue that grew has memory for less than twice the slots that it was asked for, or for four. With n
-//! entries, `insert`, `poll` and `remove` compare two entries or move one at most `4 d + 2` times, where d is the number of binary
-//! digits of n; [`touched`](SlotQueue::touched) counts them. The contracts of these calls state the bound, and that the count
-//! grows by as many as the call makes of some heap of these entries (`specs/Touches.antt`). All other calls take constant
-//! time, but for `new` and `reserve`, which go over the places.
+//! place in a heap, each of whose entries has four below it. How much more a queue has that grew, its lists decide. With n
+//! entries, `insert`, `poll` and `remove` compare two entries or move one at most `4 d + 2` times, where d is the number of
+//! binary digits of n: the contracts of these calls state the bound, and [`touched`](SlotQueue::touched) counts. All other
+//! calls take constant time, but for `new` and `reserve`, which go over the places.
 //!
 //! # Tests
 //!

@@ -1,8 +1,7 @@
-//! The queue: a binary heap of entries, with the place of each slot's entry beside it.
+//! The queue: a heap of entries, with the place of each slot's entry beside it.
 ghost use Rattle.std.specs.Prelude.{◌≡◌, ℕ, ◌+◌, ◌-◌, ◌<◌, ◌≤◌, ◌==◌, true, false, min, Some, None, length, replicate, slice_set, is_some, IfOk, IsOk, OnOk, OnErr, IfSome, IfNone};
 ghost use Rattle.slot_queue.specs.Entries.{Key, seen, key_of};
 ghost use Rattle.slot_queue.specs.Queues.{key_in, due_by, with_slots, entry_count, most_touches, greatest_count, IsLeast, IsEmpty, NoneIsDue, Touches};
-ghost use Rattle.slot_queue.specs.Touches.{insert_touches, take_touches, CountsTouches, RemovalMakes};
 
 use crate::entry::Entry;
 use crate::error::QueueError;
@@ -27,8 +26,7 @@ impl<R: Rank, A: Allocator> Model for SlotQueue<R, A> {
     ghost use Rattle.std.specs.Prelude.{vec_capacity};
     ghost use Rattle.slot_queue.specs.Entries.{seen_all};
     ghost use Rattle.slot_queue.specs.Queues.{Queue};
-    ghost use Rattle.slot_queue.specs.Heaps.{table};
-    ghost use Rattle.slot_queue.specs.own.Heaps.{IsWellFormedQueue};
+    ghost use Rattle.slot_queue.specs.own.Heaps.{table, IsWellFormedQueue};
 
     ghost Value = { Queue };
 
@@ -115,8 +113,6 @@ impl<R: Rank, A: Allocator> SlotQueue<R, A> {
             ≡ slice_set self.old.entries entry.slot (Some (key_of (seen R.rank entry))) }
         ensures touched { Touches self.old.touched self.new.touched
             (min 1 (entry_count self.old.entries)) (most_touches (entry_count self.old.entries)) }
-        ensures counted { CountsTouches self.old self.new.touched
-            (λ heap times. times ≡ insert_touches heap (seen R.rank entry)) }
     {
         let place = self.heap.len();
         self.heap.push_reserved(entry);
@@ -148,9 +144,6 @@ impl<R: Rank, A: Allocator> SlotQueue<R, A> {
             (λ _. Touches self.old.touched self.new.touched
             (min 1 (entry_count self.old.entries - 1))
             (most_touches (entry_count self.old.entries))) }
-        ensures counted { IfSome result
-            (λ _. CountsTouches self.old self.new.touched
-            (λ heap times. times ≡ take_touches heap 0)) }
         ensures untouched { IfNone result (self.new.touched ≡ self.old.touched) }
     {
         let least = *self.heap.first()?;
@@ -173,8 +166,6 @@ impl<R: Rank, A: Allocator> SlotQueue<R, A> {
         ensures least { (key : Key) → IsLeast self.old.entries key slot
             → Touches self.old.touched self.new.touched (min 1 (entry_count self.old.entries - 1))
             (most_touches (entry_count self.old.entries)) }
-        ensures counted { result ≡ true
-            → CountsTouches self.old self.new.touched (RemovalMakes slot) }
         ensures untouched { result ≡ false → self.new.touched ≡ self.old.touched }
     {
         let Some(place) = place_of(&self.heap, &self.places, slot) else {

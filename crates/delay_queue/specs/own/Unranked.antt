@@ -1,8 +1,7 @@
 -- How a queue is kept: as a queue of slots, whose entries have no rank. All of it is this project's rule.
 use Rattle.std.specs.Prelude.{◌≡◌, ℕ, List, map, Option, Some, None}
-use Rattle.slot_queue.specs.Entries.{Key, Seen}
+use Rattle.slot_queue.specs.Entries.{Key}
 use Rattle.slot_queue.specs.Queues.{due_by}
-use Rattle.delay_queue.specs.declared.entry.Entry.{Entry}
 
 -- the key of an entry that is due at a moment
 abbrev pub key_due : ℕ → Key
@@ -16,10 +15,6 @@ key_by (Some due) = Some (key_due due)
 -- the keys of all slots, by when the tasks are due
 abbrev pub keys_by : List (Option ℕ) → List (Option Key)
 keys_by entries = map key_by entries
-
--- an entry of a task, as one of its slot
-abbrev pub in_slot : Entry → Seen
-in_slot e = record { due = e.due; rank = 0; slot = e.task }
 
 -- each entry of a queue of slots has the rank 0: its due moment says all of its key
 abbrev pub IsUnranked : List (Option Key) → Type 0

@@ -2,7 +2,7 @@
 use super::{Key, place_of};
 use std::alloc::{AllocError, Global};
 
-/// A heap whose entries change places by swaps. It counts each comparison of two entries, and each change of the index of
+/// A heap of four children whose entries change places by swaps. It counts each comparison of two entries, and each change of the index of
 /// an entry that was there before the call and is there after it.
 #[derive(Drop)]
 pub(super) struct CountingHeap {
@@ -56,18 +56,9 @@ impl CountingHeap {
     /// The entry at a place goes down as far as it can. Where it is then.
     fn lower(&mut self, mut place: usize) -> usize {
         for _ in 0..usize::BITS {
-            let left = place.saturating_mul(2).saturating_add(1);
-            let right = left.saturating_add(1);
-            let next = if right >= self.entries.len() {
-                left
-            } else if self.comes_first(right, left) {
-                right
-            } else {
-                left
-            };
-            if next >= self.entries.len() {
+            let Some(next) = self.least_below(place) else {
                 break;
-            }
+            };
             self.swap(place, next);
             self.count();
             place = next;
@@ -75,10 +66,27 @@ impl CountingHeap {
         place
     }
 
+    /// Where the least of the entries right below a place stands.
+    fn least_below(&mut self, place: usize) -> Option<usize> {
+        let first = place.saturating_mul(4).saturating_add(1);
+        let end = self.entries.len().min(first.saturating_add(4));
+        let mut least = None;
+        for next in first..end {
+            let is_less = match least {
+                Some(least) => self.comes_first(next, least),
+                None => true,
+            };
+            if is_less {
+                least = Some(next);
+            }
+        }
+        least
+    }
+
     /// The entry at a place goes up until the one above it comes first.
     fn lift(&mut self, mut place: usize) {
         for _ in 0..usize::BITS {
-            let above = place.saturating_sub(1) / 2;
+            let above = place.saturating_sub(1) / 4;
             if place == 0 || self.comes_first(above, place) {
                 break;
             }

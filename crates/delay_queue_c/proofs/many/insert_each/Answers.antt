@@ -13,7 +13,6 @@ loop-count-preserved c =
       admitted = sym c.in-Done.ensures.answers;
       inserted = c.in-Done.ensures.inserted refl;
       touched = c.in-Done.ensures.touched refl;
-      counted = c.in-Done.ensures.counted refl;
     } in
     record {
       within = search rules;

@@ -14,7 +14,6 @@ loop-count-preserved c =
       due = search rules;
       removed = search rules;
       touched = search rules;
-      counted = search rules;
     } in
     record {
       within = search rules;

@@ -1,10 +1,7 @@
 -- The hole rises: the entry that is put into it would stand above those below it.
-use Rattle.std.proofs.Common.{◌≡◌, ◌+◌, ◌*◌, ◌<◌, length}
+use Rattle.std.proofs.Common.{◌≡◌, ◌+◌, ◌<◌, ◌≤◌, length}
 use Rattle.slot_queue.specs.Entries.{seen, seen_all}
-use Rattle.slot_queue.specs.Queues.{binary_digits}
-use Rattle.slot_queue.specs.own.Heaps.{IsHeapAround, IsAboveChildren, MovesHole}
-use Rattle.slot_queue.specs.Touches.{moving}
-use Rattle.slot_queue.proofs.Touched.{Rises}
+use Rattle.slot_queue.specs.own.Heaps.{level, IsHeapAround, IsAboveChildren, MovesHole}
 use Rattle.slot_queue.proofs.heap.rise.Given as goal
 
 abbrev pub invariant-loop-hole : goal.invariant-loop-hole
@@ -16,8 +13,8 @@ invariant-loop-hole g l =
       around : IsHeapAround (seen_all rank l.heap) l.hole;
       above : IsAboveChildren (seen_all rank l.heap) l.hole (seen rank l.entry);
       moves : MovesHole (seen_all rank l.fn.heap) l.fn.places l.fn.hole (seen_all rank l.heap) l.places l.hole;
-      count : l.touches + 2 * binary_digits (l.hole + 1) ≡ 2 * binary_digits (l.fn.hole + 1);
-      exact : Rises (seen rank l.entry) l.fn.hole (moving (seen_all rank l.fn.heap) l.fn.hole 0) (moving (seen_all rank l.heap) l.hole l.touches);
+      some : l.hole < l.fn.hole → 0 < l.touches;
+      count : l.touches + level l.hole ≤ level l.fn.hole;
     }
 
 abbrev pub decreases-loop-hole : goal.decreases-loop-hole

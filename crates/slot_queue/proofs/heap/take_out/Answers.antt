@@ -1,15 +1,13 @@
 -- The last entry comes into the place of the one that is taken out.
-use Rattle.std.proofs.Common.{◌≡◌, ◌≢◌, ℕ, ◌<◌, length, arith, List, [], ◌∷◌, ◌++◌, take, drop, sym, ap, subst, ◌∙◌, length-append}
+use Rattle.std.proofs.Common.{◌≡◌, ◌≢◌, ℕ, ◌+◌, ◌<◌, ◌≤◌, length, arith, List, [], ◌∷◌, ◌++◌, take, drop, sym, ap, subst, ◌∙◌, length-append}
 use Rattle.std.proofs.lemmas.List.{map-append}
 use Rattle.slot_queue.specs.Entries.{Seen, seen, seen_all}
-use Rattle.slot_queue.specs.Heaps.{entry_at, IsHeap, IsPlaced, key_in_heap}
+use Rattle.slot_queue.specs.Queues.{most_touches}
+use Rattle.slot_queue.specs.own.Heaps.{entry_at, IsHeap, IsPlaced, key_in_heap}
 use Rattle.slot_queue.specs.own.Heaps.{IsHeapAround, IsPlacedWith, key_with}
-use Rattle.slot_queue.specs.Touches.{replace_touches}
 use Rattle.slot_queue.specs.declared.entry.Entry.{Entry}
-use Rattle.slot_queue.proofs.Digits.{digits_more}
 use Rattle.slot_queue.proofs.Lookups.{seen_long, lent_back}
 use Rattle.slot_queue.proofs.Taken.{without_last, IsForLast, for_last}
-use Rattle.slot_queue.proofs.Touched.{take_other_touches}
 use Rattle.slot_queue.proofs.heap.take_out.Goals as goal
 
 -- the heap as contracts see it, and its last entry
@@ -94,18 +92,6 @@ returns-clause-others g c slot other =
 pub returns-clause-few : goal.returns-clause-few
 returns-clause-few g c =
     let v = c.take_last-last.new.self in
-    omega (
-      arith,
-      c.replace.ensures.few,
-      digits_more (length c.deref_mut.result.now) (length c.args.heap.now.items)
-          (omega (arith, ap length c.deref_mut.ensures.value, ap length c.take_last-last.ensures.items, length-append v.items (c.take_last-last.result ∷ []))),
-    )
-
-pub returns-clause-exact : goal.returns-clause-exact
-returns-clause-exact g c =
-    let rank = g.R.Rank.rank in
-    let v = c.take_last-last.new.self in
-    let last = c.take_last-last.result in
-    c.replace.ensures.exact ∙ ap (λ (l : List (Entry _)). replace_touches (seen_all rank l) c.args.place (seen rank last)) c.deref_mut.ensures.value
-    ∙ take_other_touches (seen_all rank c.args.heap.now.items) (seen_all rank v.items) (seen rank last) c.args.place (whole rank c.args.heap.now.items v.items last c.take_last-last.ensures.items)
-    (λ same. c.if-place-len.false (same ∙ seen_long rank v.items ∙ sym v.ok.0 ∙ sym c.len.ensures))
+    let size : length c.deref_mut.result.now + 1 ≡ length c.args.heap.now.items =
+    omega (arith, ap length c.deref_mut.ensures.value, ap length c.take_last-last.ensures.items, length-append v.items (c.take_last-last.result ∷ [])) in
+    subst (λ (n : ℕ). c.replace.result ≤ most_touches n) size c.replace.ensures.few

@@ -1,13 +1,10 @@
 -- The entry goes into the slot of its task.
 use Rattle.std.proofs.Common.{◌≡◌, ℕ, min, map, List, Option, Some, set, ap, ◌∙◌}
-use Rattle.slot_queue.specs.Entries.{Key, Seen}
-use Rattle.slot_queue.specs.Touches.{insert_touches as slot_touches}
+use Rattle.slot_queue.specs.Entries.{Key}
 use Rattle.delay_queue.specs.Queues.{Queue}
-use Rattle.delay_queue.specs.Touches.{insert_touches}
-use Rattle.delay_queue.specs.own.Unranked.{key_due, keys_by, in_slot}
+use Rattle.delay_queue.specs.own.Unranked.{key_due, keys_by}
 use Rattle.delay_queue.specs.declared.entry.Entry.{Entry}
 use Rattle.delay_queue.proofs.Keys.{entries_of, slots_are, keys_set, table_shown, unranked, touches_are}
-use Rattle.delay_queue.proofs.Counts.{counts_is, insert_is}
 use Rattle.delay_queue.proofs.queue.DelayQueue.insert.Goals as goal
 
 -- the slots after it
@@ -40,14 +37,3 @@ returns-clause-touched g c =
     let q = c.self.inside.slots in
     touches_are q.entries c.args.self.now.entries q.touched c.args.self.now.touched c.insert.new.self.touched (λ (n : ℕ). min 1 n)
     (slots_are q.entries c.args.self.now.entries c.self.invariant (ap entries_of c.self.view_is)) (ap (λ (v : Queue). v.touched) c.self.view_is) c.insert.ensures.touched
-
-pub returns-clause-counted : goal.returns-clause-counted
-returns-clause-counted g c =
-    let q = c.self.inside.slots in
-    let e = c.args.entry in
-    let x : Seen = record { due = c.in_slot.result.due; rank = 0; slot = c.in_slot.result.slot } in
-    let same : x ≡ in_slot e =
-    ap (λ (n : ℕ). record { due = n; rank = 0; slot = c.in_slot.result.slot }) c.in_slot.ensures.due ∙ ap (λ (n : ℕ). record { due = e.due; rank = 0; slot = n }) c.in_slot.ensures.slot in
-    counts_is q c.args.self.now c.insert.new.self.touched (λ heap times. times ≡ slot_touches heap x) (λ heap times. times ≡ insert_touches heap e)
-    (slots_are q.entries c.args.self.now.entries c.self.invariant (ap entries_of c.self.view_is)) (ap (λ (v : Queue). v.touched) c.self.view_is)
-    (λ heap times makes. makes ∙ ap (λ (s : Seen). slot_touches (map in_slot heap) s) same ∙ insert_is heap e) c.insert.ensures.counted

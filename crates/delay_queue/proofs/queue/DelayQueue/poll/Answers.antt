@@ -1,12 +1,9 @@
 -- The least entry of the slots is the least of the tasks, and is taken out.
 use Rattle.std.proofs.Common.{◌≡◌, ℕ, ◌-◌, Option, None, set, min, ap, sym, subst, subst₂, ◌∙◌}
 use Rattle.std.specs.Prelude.{IfNone}
-use Rattle.slot_queue.specs.Touches.{take_touches as slot_touches}
 use Rattle.delay_queue.specs.Queues.{Queue, IsLeast, NoneIsDue}
-use Rattle.delay_queue.specs.Touches.{take_touches}
 use Rattle.delay_queue.specs.declared.entry.Entry.{Entry}
 use Rattle.delay_queue.proofs.Keys.{entries_of, slots_are, keys_set, table_shown, unranked, least_is, none_due_is, touches_are}
-use Rattle.delay_queue.proofs.Counts.{counts_is, take_is}
 use Rattle.delay_queue.proofs.queue.DelayQueue.poll.Goals as goal
 
 pub returns-in_err-poll-clause-none_due : goal.returns-in_err-poll-clause-none_due
@@ -46,10 +43,3 @@ returns-clause-touched g c =
     let q = c.self.inside.slots in
     touches_are q.entries c.args.self.now.entries q.touched c.args.self.now.touched c.poll.new.self.touched (λ (n : ℕ). min 1 (n - 1))
     (slots_are q.entries c.args.self.now.entries c.self.invariant (ap entries_of c.self.view_is)) (ap (λ (v : Queue). v.touched) c.self.view_is) c.in_ok-poll.ensures.touched
-
-pub returns-clause-counted : goal.returns-clause-counted
-returns-clause-counted g c =
-    let q = c.self.inside.slots in
-    counts_is q c.args.self.now c.poll.new.self.touched (λ heap times. times ≡ slot_touches heap 0) (λ heap times. times ≡ take_touches heap 0)
-    (slots_are q.entries c.args.self.now.entries c.self.invariant (ap entries_of c.self.view_is)) (ap (λ (v : Queue). v.touched) c.self.view_is)
-    (λ heap times makes. makes ∙ take_is heap 0) c.in_ok-poll.ensures.counted

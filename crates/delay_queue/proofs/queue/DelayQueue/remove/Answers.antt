@@ -1,11 +1,8 @@
 -- The entry leaves the slot of its task.
 use Rattle.std.proofs.Common.{ℕ, ◌-◌, None, set, min, ap}
-use Rattle.slot_queue.specs.Touches.{RemovalMakes as SlotMakes}
 use Rattle.delay_queue.specs.Queues.{Queue}
-use Rattle.delay_queue.specs.Touches.{RemovalMakes}
 use Rattle.delay_queue.specs.own.Unranked.{key_due}
 use Rattle.delay_queue.proofs.Keys.{entries_of, slots_are, keys_set, table_shown, unranked, least_slot, touches_are}
-use Rattle.delay_queue.proofs.Counts.{counts_is, removal_is}
 use Rattle.delay_queue.proofs.queue.DelayQueue.remove.Goals as goal
 
 pub invariant_of-self : goal.invariant_of-self
@@ -34,10 +31,3 @@ returns-clause-least g c due h =
     let is = slots_are q.entries c.args.self.now.entries c.self.invariant (ap entries_of c.self.view_is) in
     touches_are q.entries c.args.self.now.entries q.touched c.args.self.now.touched c.remove.new.self.touched (λ (n : ℕ). min 1 (n - 1)) is (ap (λ (v : Queue). v.touched) c.self.view_is)
     (c.remove.ensures.least (key_due due) (least_slot q.entries c.args.self.now.entries due c.args.task is h))
-
-pub returns-clause-counted : goal.returns-clause-counted
-returns-clause-counted g c done =
-    let q = c.self.inside.slots in
-    counts_is q c.args.self.now c.remove.new.self.touched (SlotMakes c.args.task) (RemovalMakes c.args.task)
-    (slots_are q.entries c.args.self.now.entries c.self.invariant (ap entries_of c.self.view_is)) (ap (λ (v : Queue). v.touched) c.self.view_is) (removal_is c.args.task)
-    (c.remove.ensures.counted done)

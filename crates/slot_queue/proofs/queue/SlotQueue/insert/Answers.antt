@@ -1,21 +1,18 @@
 -- The entry has room, comes last, and rises.
-use Rattle.std.proofs.Common.{◌≡◌, ◌≢◌, ⊎_elim, ℕ, min, Bool, true, false, cond, eqb, eqb-true, ◌+◌, ◌*◌, ◌<◌, ◌≤◌, length, None, Option, arith, List, [], ◌∷◌, ◌++◌, refl, sym, ap, subst, subst₂, ◌∙◌, length-append}
-use Rattle.std.specs.Prelude.{slice_index_or}
-use Rattle.std.proofs.lemmas.Bool.{cases_eq}
+use Rattle.std.proofs.Common.{◌≡◌, ℕ, min, ◌+◌, ◌<◌, ◌≤◌, length, None, Option, arith, List, [], ◌∷◌, ◌++◌, sym, ap, subst, subst₂, ◌∙◌, length-append}
 use Rattle.std.proofs.lemmas.List.{map-append}
 use Rattle.slot_queue.specs.Entries.{Key, Seen, seen, seen_all}
-use Rattle.slot_queue.specs.Queues.{Queue, key_in, entry_count, most_touches, greatest_count, binary_digits}
-use Rattle.slot_queue.specs.Heaps.{IsHeap, IsPlaced, table}
-use Rattle.slot_queue.specs.own.Heaps.{IsHeapAround, IsPlacedWith}
+use Rattle.slot_queue.specs.Queues.{Queue, key_in, entry_count, greatest_count}
+use Rattle.slot_queue.specs.own.Heaps.{IsHeap, IsPlaced, table}
+use Rattle.slot_queue.specs.own.Heaps.{level, IsHeapAround, IsPlacedWith}
 use Rattle.slot_queue.specs.declared.entry.Entry.{Entry}
-use Rattle.slot_queue.proofs.Digits.{digits_one, digits_two, digits_some, digits_next}
+use Rattle.slot_queue.proofs.Digits.{level_within}
 use Rattle.slot_queue.proofs.Holes.{around_pushed}
 use Rattle.slot_queue.proofs.Lookups.{seen_long, lent_back}
 use Rattle.slot_queue.proofs.Tables.{length-table}
-use Rattle.slot_queue.proofs.Counts.{count_placed, room_left}
+use Rattle.slot_queue.proofs.Counts.{count_placed, room_left, some_risen}
 use Rattle.slot_queue.proofs.Calls.{entries_of, beside_pushed, inserted_lent}
 use Rattle.slot_queue.proofs.Places.{placed_from_beside}
-use Rattle.slot_queue.specs.Touches.{moving, risen, CountsTouches}
 use Rattle.slot_queue.proofs.queue.SlotQueue.insert.Goals as goal
 
 pub push_reserved-requires : goal.push_reserved-requires
@@ -74,24 +71,10 @@ returns-clause-inserted g c =
     q.places.len (ap entries_of c.self.view_is) c.self.invariant.placed c.requires.known c.push_reserved.ensures.items c.deref_mut.ensures.value c.deref_mut-2.ensures.value
     (omega (arith, c.len-place.ensures, q.heap.ok.0)) v.ok.0 q.places.ok.0 r.ensures.heap_length r.ensures.places_length r.ensures.keys
 
--- an entry that rises from behind `count` others makes a touch where there is another one, and no more than a call may
-rise_within : (times count stop : ℕ) (b : Bool) → eqb stop 0 ≡ b → times + 2 * binary_digits (stop + 1) ≡ 2 * binary_digits (count + 1) + cond b 0 1
-    → (min 1 count ≤ times) × (times ≤ most_touches count)
-rise_within times count stop true top h =
-    let first : binary_digits (stop + 1) ≡ 1 = ap (λ (n : ℕ). binary_digits (n + 1)) (eqb-true stop 0 top) ∙ digits_one in (
-      ⊎_elim
-          (λ (none : count ≡ 0). omega (arith, none))
-          (λ (some : count ≢ 0). omega (arith, first, h, digits_two count (omega (arith, some))))
-          (cases_eq count 0),
-      omega (arith, first, h, digits_next count),
-    )
-rise_within times count stop false low h = (omega (arith, h), omega (arith, h, digits_next count, digits_some stop))
-
 pub returns-clause-touched : goal.returns-clause-touched
 returns-clause-touched g c =
     let rank = g.R.Rank.rank in
     let q = c.self.inside in
-    let stop = slice_index_or c.rise-touches.new.places c.args.entry.slot 0 in
     let size : c.len-place.result ≡ entry_count c.args.self.now.entries =
     omega (
       arith,
@@ -101,30 +84,14 @@ returns-clause-touched g c =
       c.len-place.ensures,
       q.heap.ok.0,
     ) in
-    let both = rise_within c.rise-touches.result (entry_count c.args.self.now.entries) stop (eqb stop 0) refl
-    (subst (λ (n : ℕ). c.rise-touches.result + 2 * binary_digits (stop + 1) ≡ 2 * binary_digits (n + 1) + cond (eqb stop 0) 0 1) size c.rise-touches.ensures.touches) in
     record {
       times = c.rise-touches.result;
-      many = both.0;
-      few = both.1;
-      counted = c.count.ensures ∙ ap (λ (v : Queue). min (v.touched + c.rise-touches.result) greatest_count) c.self.view_is;
-    }
-
-pub returns-clause-counted : goal.returns-clause-counted
-unfolding CountsTouches
-returns-clause-counted g c =
-    let rank = g.R.Rank.rank in
-    let q = c.self.inside in
-    let all = seen_all rank q.heap.items in
-    let y = seen rank c.args.entry in
-    let place : c.len-place.result ≡ length all = omega (arith, c.len-place.ensures, q.heap.ok.0, seen_long rank q.heap.items) in
-    let whole = ap (seen_all rank) (c.deref_mut.ensures.value ∙ c.push_reserved.ensures.items) ∙ map-append (seen rank) q.heap.items (c.args.entry ∷ []) in
-    record {
-      heap = all;
-      is = record { places = q.places.items; ordered = c.self.invariant.heap; placed = c.self.invariant.placed; holds = ap entries_of c.self.view_is };
-      times = c.rise-touches.result;
-      makes = c.rise-touches.ensures.exact ∙ ap (λ (n : ℕ). (risen n y (moving (seen_all rank c.deref_mut.result.now) n 0)).touches) place
-          ∙ ap (λ (l : List Seen). (risen (length all) y (moving l (length all) 0)).touches) whole;
+      many = some_risen (entry_count c.args.self.now.entries) c.rise-touches.result (subst (λ (n : ℕ). 0 < n → 0 < c.rise-touches.result) size c.rise-touches.ensures.many);
+      few = omega (
+        arith,
+        subst (λ (n : ℕ). c.rise-touches.result ≤ level n) size c.rise-touches.ensures.few,
+        level_within (entry_count c.args.self.now.entries) (entry_count c.args.self.now.entries) (omega arith),
+      );
       counted = c.count.ensures ∙ ap (λ (v : Queue). min (v.touched + c.rise-touches.result) greatest_count) c.self.view_is;
     }
 

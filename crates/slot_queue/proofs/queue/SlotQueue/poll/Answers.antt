@@ -6,7 +6,6 @@ use Rattle.slot_queue.specs.Queues.{Queue, IsLeast, NoneIsDue, entry_count, most
 use Rattle.slot_queue.proofs.Counts.{count_placed, count_within, some_touched}
 use Rattle.slot_queue.proofs.Calls.{entries_of, least, empty, nothing_first, none_due, first_read, removed_lent}
 use Rattle.slot_queue.proofs.Lookups.{seen_long}
-use Rattle.slot_queue.specs.Touches.{CountsTouches}
 use Rattle.slot_queue.proofs.queue.SlotQueue.poll.Goals as goal
 
 pub returns-in_err-least-clause-none_due : goal.returns-in_err-least-clause-none_due
@@ -59,17 +58,5 @@ returns-clause-touched g c =
       times = c.take_out-touches.result;
       many = some_touched (entry_count c.args.self.now.entries) c.take_out-touches.result (subst (λ (n : ℕ). 0 + 1 < n → 0 < c.take_out-touches.result) size c.take_out-touches.ensures.many);
       few = subst (λ (n : ℕ). c.take_out-touches.result ≤ most_touches n) size c.take_out-touches.ensures.few;
-      counted = c.count.ensures ∙ ap (λ (v : Queue). min (v.touched + c.take_out-touches.result) greatest_count) c.self.view_is;
-    }
-
-pub returns-clause-counted : goal.returns-clause-counted
-unfolding CountsTouches
-returns-clause-counted g c =
-    let q = c.self.inside in
-    record {
-      heap = seen_all g.R.Rank.rank q.heap.items;
-      is = record { places = q.places.items; ordered = c.self.invariant.heap; placed = c.self.invariant.placed; holds = ap entries_of c.self.view_is };
-      times = c.take_out-touches.result;
-      makes = c.take_out-touches.ensures.exact;
       counted = c.count.ensures ∙ ap (λ (v : Queue). min (v.touched + c.take_out-touches.result) greatest_count) c.self.view_is;
     }

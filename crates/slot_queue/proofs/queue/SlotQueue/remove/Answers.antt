@@ -6,7 +6,6 @@ use Rattle.slot_queue.specs.Queues.{Queue, IsLeast, entry_count, most_touches, g
 use Rattle.slot_queue.proofs.Counts.{count_placed, count_within, some_touched}
 use Rattle.slot_queue.proofs.Calls.{entries_of, least_place, found_lent, missing_lent, nothing_there, removed_lent}
 use Rattle.slot_queue.proofs.Lookups.{seen_long}
-use Rattle.slot_queue.specs.Touches.{CountsTouches}
 use Rattle.slot_queue.proofs.queue.SlotQueue.remove.Goals as goal
 
 pub returns-in_default-clause-there : goal.returns-in_default-clause-there
@@ -88,19 +87,4 @@ returns-clause-least g c key h =
       many = some_touched (entry_count queue) t.result (subst₂ (λ (n k : ℕ). k + 1 < n → 0 < t.result) size first t.ensures.many);
       few = subst (λ (n : ℕ). t.result ≤ most_touches n) size t.ensures.few;
       counted = c.count.ensures ∙ ap (λ (v : Queue). min (v.touched + t.result) greatest_count) c.self.view_is;
-    }
-
-pub returns-clause-counted : goal.returns-clause-counted
-unfolding CountsTouches
-returns-clause-counted g c there =
-    let rank = g.R.Rank.rank in
-    let q = c.self.inside in
-    let f = found_lent rank q.heap.items c.deref.result.now q.places.items c.args.self.now.entries c.args.slot c.in-Some.place (ap entries_of c.self.view_is) c.self.invariant.placed
-    c.deref.ensures.value c.in-Some.ensures.found in
-    record {
-      heap = seen_all rank q.heap.items;
-      is = record { places = q.places.items; ordered = c.self.invariant.heap; placed = c.self.invariant.placed; holds = ap entries_of c.self.view_is };
-      times = c.take_out-touches.result;
-      makes = record { place = c.in-Some.place; inside = f.0; own = f.1; makes = c.take_out-touches.ensures.exact };
-      counted = c.count.ensures ∙ ap (λ (v : Queue). min (v.touched + c.take_out-touches.result) greatest_count) c.self.view_is;
     }

@@ -1,7 +1,7 @@
 -- The new slots have no entry.
 use Rattle.std.proofs.Common.{◌≡◌, ◌-◌, ◌++◌, List, take, replicate, ap, ◌∙◌, arith, rules}
 use Rattle.slot_queue.specs.Entries.{seen_all}
-use Rattle.slot_queue.specs.Heaps.{table}
+use Rattle.slot_queue.specs.own.Heaps.{table}
 use Rattle.slot_queue.specs.declared.entry.Entry.{Entry}
 use Rattle.slot_queue.proofs.Calls.{entries_of}
 use Rattle.slot_queue.proofs.Counts.{count_within}
