@@ -175,8 +175,8 @@ enum {
 };
 
 typedef struct timers_task {
-    uint64_t run;       /* the number of the run that it waits for, or that is under way; 0 where the task is gone */
-    uint64_t due;       /* the moment at which that run is due; 0 where the task is gone */
+    uint64_t run;       /* the number of the run that it waits for, or waited for when it was cancelled, or that is under way; 0 where the task is gone */
+    uint64_t due;       /* the moment at which that run is due, or was; 0 where the task is gone */
     uint32_t phase;     /* TIMERS_TASK_.. */
     uint32_t cancelled; /* 1: it was cancelled, and is not gone; else 0 */
 } timers_task;
@@ -286,7 +286,7 @@ static inline timers_status timers_fixed(timers_slot *slot, uint64_t now, uint64
 }
 
 /* Cancels a task, and writes what that did (TIMERS_CANCEL_..). A task that waits is kept in the queue until a poll meets it, or a
- * shutdown sweeps it, unless the remove policy is set. A run that is under way goes on, and is finished as any other; no run comes after it. TIMERS_NO_TIMERS.
+ * shutdown or a policy sweeps it, unless the remove policy is set. A run that is under way goes on, and is finished as any other; no run comes after it. TIMERS_NO_TIMERS.
  * TIMERS_NO_TASK: no submission was given the number yet. */
 static inline timers_status timers_cancel(timers_slot *slot, timers_ref task, uint32_t *effect) {
     return slot == NULL || effect == NULL ? (timers_status)TIMERS_NULL : timers_ref_cancel(slot, &task, effect);
@@ -383,8 +383,9 @@ static inline timers_status timers_ended(timers_slot *slot, size_t place, timers
 /* Copies the text of the lines of the last call into a buffer of `room` bytes, from line `from` on, counted from 0, and writes to
  * `copied` how much: whole lines, each of which begins where TIMERS_LINE_ROOM bytes of room are left, until no line is left or no such
  * room. The lines of all calls, taken after each, are the trace that `sched check` takes beside a plan with the submissions, the policies,
- * the shutdowns and the questions, at the moments that the lines tell, as long as these are 65,536 at most. The line to go on with is `from + copied->lines`. What stands in the buffer
- * behind the text is lost. TIMERS_NO_TIMERS. TIMERS_NUMBER: nothing is written to the buffer. `out` may be NULL where room is 0. */
+ * the shutdowns and the questions, at the moments that the lines tell, as long as these are 65,536 at most, their plan is no longer than 1 MiB, which some
+ * 20,000 calls fill, and the trace no longer than 64 MiB. The line to go on with is `from + copied->lines`. What stands in the
+ * buffer behind the text is lost. TIMERS_NO_TIMERS. TIMERS_NUMBER: nothing is written to the buffer. `out` may be NULL where room is 0. */
 static inline timers_status timers_text(timers_slot *slot, size_t from, uint8_t *out, size_t room, timers_copied *copied) {
     uint8_t none = 0;
     if (slot == NULL || copied == NULL || (out == NULL && room != 0)) return TIMERS_NULL;

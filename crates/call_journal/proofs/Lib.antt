@@ -1,2 +1,12 @@
 pub mod Values
 pub mod PlainTrees
+pub mod TaskNames
+pub mod Numbered
+pub mod Nanos
+pub mod CallTables
+pub mod WrittenCalls
+pub mod BlockCalls
+pub mod BlockHeads
+pub mod WrittenBlocks
+pub mod WrittenTexts
+pub mod NotedCalls

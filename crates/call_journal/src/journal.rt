@@ -1,6 +1,6 @@
 //! The calls that were made.
 
-ghost use Rattle.std.specs.Prelude.{◌≡◌, ◌≤◌, [], false, length, IsOk, OnOk, OnErr};
+ghost use Rattle.std.specs.Prelude.{◌≡◌, ◌⊎◌, ◌*◌, ◌<◌, ◌≤◌, [], false, length, IsOk, OnOk, OnErr};
 ghost use Rattle.call_journal.specs.Journals.{noted, keeps_more, HasRoom};
 ghost use Rattle.plan_read.specs.Plans.{most_calls};
 
@@ -61,6 +61,8 @@ impl<A: Allocator> Journal<A> {
         ensures room { OnOk result (HasRoom self.new) }
         ensures grows { self.old.room ≤ self.new.room }
         ensures needless { HasRoom self.old → IsOk result × (self.new ≡ self.old) }
+        ensures doubles { OnOk result
+            (HasRoom self.old ⊎ (2 * length self.old.calls < self.new.room)) }
         ensures failed { OnErr result (self.new ≡ self.old) }
     {
         if !self.keeps_more() || self.calls.len() < self.calls.capacity() {

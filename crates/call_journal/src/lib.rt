@@ -28,6 +28,14 @@
 //! Tasks are named `t0`, `t1` and so on, in the order of all submissions, and a cancel of task K has the name `tK`. A period or a
 //! fixed delay of 0 is written as such, and a plan that is read has none there.
 //!
+//! # What is proved
+//!
+//! The text that [`plan_text`] prints writes a plan, and the calls of that plan (`calls_of_plan` of `plan_compile`) are exactly those
+//! that were handed in (`executor_calls` in `specs/MadeCalls.antt`), each at its moment and with its task's number: clause `plan`, and
+//! the law [`trees_make_the_calls`]. This asks that a plan may make them: at most 65,536 calls, whose moments do not fall and are at
+//! most 2^62, whose spans are in the ranges of [`CallLine`], and whose cancels name tasks submitted before them. What a live run notes
+//! in an empty journal is such, by a law of `live_engine`.
+//!
 //! # Order and ties
 //!
 //! Calls stand in the text in the order in which they were made. `plan_read` refuses a text whose moments fall, whose moments or
@@ -54,9 +62,11 @@ mod blocks;
 mod calls;
 mod entries;
 mod journal;
+mod laws;
 mod limits;
 mod plans;
 
 pub use call_text::CallLine;
 pub use journal::{Journal, MadeCall};
+pub use laws::trees_make_the_calls;
 pub use plans::plan_text;

@@ -5,6 +5,7 @@ ghost use Rattle.toml.specs.Text.{IsDocumentText};
 ghost use Rattle.toml.specs.View.{table_view};
 ghost use Rattle.plan_read.specs.Plans.{most_calls};
 ghost use Rattle.plan_read.specs.Texts.{longest_text, tree_of};
+ghost use Rattle.call_journal.specs.MadeCalls.{MayBePlanned, WritesPlanOf};
 ghost use Rattle.call_journal.specs.Plans.{TextFault, no_blocks, tree_of_calls};
 
 use crate::blocks::block_values;
@@ -17,7 +18,8 @@ use toml::{Table, Value};
 
 /// The text of a plan, of version 2, that makes these calls: each at its moment, in this order, where the moments do not fall.
 /// Tasks are named `t0`, `t1` and so on, in the order of all submissions, and a cancel of task K names `tK`. Moments and spans are
-/// in nanoseconds. It is printed as `toml` prints a tree.
+/// in nanoseconds. It is printed as `toml` prints a tree. The calls of the plan that it writes are exactly these, where a plan may
+/// make them: see [`trees_make_the_calls`](crate::trees_make_the_calls).
 ///
 /// # Errors
 ///
@@ -30,6 +32,8 @@ pub fn plan_text(alloc: impl HeapAllocator, calls: &[MadeCall]) -> Result<String
         (λ s. (printed : List ℕ) → IsDocumentText false (tree_of_calls calls.now) printed
         → printed ≡ string_bytes s) }
     ensures reads { IfOk result (λ s. tree_of (string_bytes s) ≡ Some (tree_of_calls calls.now)) }
+    ensures plan { IfOk result
+        (λ s. MayBePlanned calls.now → WritesPlanOf (string_bytes s) calls.now) }
     ensures short { IfOk result (λ s. length (string_bytes s) ≤ longest_text) }
     ensures few { IfOk result (λ s. length calls.now ≤ most_calls) }
     ensures fault { IfErr result (TextFault calls.now) }

@@ -20,7 +20,8 @@ use Rattle.live_core.specs.Said.{ending}
 use Rattle.live_engine.specs.declared.live_line.LiveLine.{LiveLine}
 use Rattle.live_engine.specs.declared.live_line.LiveLine.TheVariants as l
 use Rattle.live_engine.specs.declared.stops.PieceEnd.TheVariants as e
-use Rattle.live_engine.specs.LiveLines.{LiveHistory, after_line, code_of, most_lines, planned_of, trace_length}
+use Rattle.call_journal.specs.MadeCalls.{code_of}
+use Rattle.live_engine.specs.LiveLines.{LiveHistory, IsBeyond, IsCallLine, MayComeNext, after_line, most_lines, planned_of, trace_length}
 use Rattle.live_engine.specs.own.LiveSteps.{IsAt, IsNotTaken, Refuses, TakesLine}
 use Rattle.live_engine.proofs.Steps.{behind_all}
 
@@ -90,12 +91,12 @@ submission_adds workers so_far asked all is =
 
 -- ---- room
 
--- memory is wanting for a line that the executor would take, and that ends no task
-pub wants_memory : (old new : LiveView) (line : LiveLine) (r : Reply) → TakesLine old new line r → r.ends ≡ [] → Refuses e.Memory old line
-wants_memory old new line r takes none workers so_far at =
+-- memory is wanting for a call that the executor would take, and that ends no task
+pub wants_memory : (old new : LiveView) (line : LiveLine) (r : Reply) → IsCallLine line → TakesLine old new line r → r.ends ≡ [] → Refuses e.Memory old line
+wants_memory old new line r calls takes none workers so_far at =
     let after = takes workers so_far at in
     let adds = taken_adds old new line r takes workers so_far at in
-    (after.may, after.within, omega (arith, adds, ap length none))
+    (calls, after.may, after.within, omega (arith, adds, ap length none))
 
 ends_many : (given : Answer) (ended : List TaskRef) → length (ending given ended).ends ≡ length ended
 ends_many given ended = length-map ended (λ (r : TaskRef). r.number)
@@ -111,10 +112,22 @@ neither : (A B : Type 0) → (A → ⊥) → (B → ⊥) → A ⊎ B → ⊥
 neither A B not_a not_b (inl x) = not_a x
 neither A B not_a not_b (inr y) = not_b y
 
--- or it has, and nothing is wanting but memory
-pub some_room : (old new : LiveView) (line : LiveLine) (given : Answer) (written : ℕ) → TakesLine old new line (ending given new.ended) → length new.ended < most_lines - written →
-    (workers : ℕ) (so_far : LiveHistory) → IsAt workers old so_far → written ≡ trace_length so_far → IsNotTaken e.Memory workers so_far line
-some_room old new line given written takes few workers so_far at counted =
+-- or it has
+pub has_room : (old new : LiveView) (line : LiveLine) (given : Answer) (written : ℕ) → TakesLine old new line (ending given new.ended) → length new.ended < most_lines - written →
+    (workers : ℕ) (so_far : LiveHistory) → IsAt workers old so_far → written ≡ trace_length so_far → MayComeNext so_far line × (IsBeyond workers so_far line → ⊥)
+has_room old new line given written takes few workers so_far at counted =
     let after = takes workers so_far at in
     let adds = taken_adds old new line (ending given new.ended) takes workers so_far at in
     (after.may, neither _ _ after.within (λ many. omega (arith, adds, many, few, counted, ends_many given new.ended)))
+
+-- a line that ended tasks by a sweep makes a call
+pub ends_some : (line : LiveLine) (ended : List TaskRef) → (ended ≡ []) ⊎ IsCallLine line → (ended ≡ [] → ⊥) → IsCallLine line
+ends_some line ended (inl none) some = absurd (some none)
+ends_some line ended (inr calls) some = calls
+
+-- so where it makes a call, nothing is wanting for it but memory
+pub some_room : (old new : LiveView) (line : LiveLine) (given : Answer) (written : ℕ) → IsCallLine line → TakesLine old new line (ending given new.ended) → length new.ended < most_lines - written →
+    (workers : ℕ) (so_far : LiveHistory) → IsAt workers old so_far → written ≡ trace_length so_far → IsNotTaken e.Memory workers so_far line
+some_room old new line given written calls takes few workers so_far at counted =
+    let room = has_room old new line given written takes few workers so_far at counted in
+    (calls, room.0, room.1)

@@ -5,3 +5,4 @@ pub mod Going
 pub mod Ending
 pub mod Counting
 pub mod Replied
+pub mod NotedPlans

@@ -29,7 +29,8 @@ use Rattle.live_engine.specs.declared.live_line.LiveLine.{LiveLine}
 use Rattle.live_engine.specs.declared.live_line.LiveLine.TheVariants as l
 use Rattle.live_engine.specs.declared.stops.PieceEnd.{PieceEnd}
 use Rattle.live_engine.specs.declared.stops.PieceEnd.TheVariants as e
-use Rattle.live_engine.specs.LiveLines.{IsOverLimit, LiveHistory, MayComeNext, code_of, happening_in, most_numbers}
+use Rattle.call_journal.specs.MadeCalls.{code_of}
+use Rattle.live_engine.specs.LiveLines.{IsCallLine, IsOverLimit, LiveHistory, MayComeNext, happening_in, most_numbers}
 use Rattle.live_engine.specs.own.LiveSteps.{IsAt, Refuses, TakesLine, stop_of}
 use Rattle.live_engine.proofs.Steps.{IsGiven, cancel_given, cancel_none, next_is, run_begun, takes_call, takes_event, within_call, within_no_start, within_start}
 use Rattle.live_engine.proofs.Lengths.{submission_adds, wants_memory}
@@ -80,6 +81,7 @@ is_fixed first delay = record { submits = λ k. refl; may = λ count so_far same
 -- memory is wanting for one
 no_slot : (m : LiveView) (asked : CallLine) → IsSubmission asked → moment_of_call m 0 ≤ longest → m.count < most_numbers → Refuses e.Memory m (l.Call asked)
 no_slot m asked is near few workers so_far at = (
+  tt,
   is.may m.count so_far at.stands.count,
   within_call workers m so_far asked at near (is.given m.count few),
   submission_adds workers so_far asked at.stands.made (is.submits (task_count so_far.calls)),
@@ -122,9 +124,9 @@ refuses_late m asked ce.Memory may is = absurd is
 refuses_late m asked ce.Illegal may is = absurd is
 
 -- want of memory for the answer to one that ends no task
-pub memory_refuses : (old new : LiveView) (line : LiveLine) (r : Reply) (told : Result Answer PieceEnd) → TakesLine old new line r → r.ends ≡ [] → IfErr told (λ end. end ≡ e.Memory) → IfErr told (λ end. Refuses end old line)
-memory_refuses old new line r (Ok answer) takes none is = tt
-memory_refuses old new line r (Err end) takes none is = subst (λ (end : PieceEnd). Refuses end old line) (sym is) (wants_memory old new line r takes none)
+pub memory_refuses : (old new : LiveView) (line : LiveLine) (r : Reply) (told : Result Answer PieceEnd) → IsCallLine line → TakesLine old new line r → r.ends ≡ [] → IfErr told (λ end. end ≡ e.Memory) → IfErr told (λ end. Refuses end old line)
+memory_refuses old new line r (Ok answer) calls takes none is = tt
+memory_refuses old new line r (Err end) calls takes none is = subst (λ (end : PieceEnd). Refuses end old line) (sym is) (wants_memory old new line r calls takes none)
 
 -- ---- events
 

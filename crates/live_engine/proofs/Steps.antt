@@ -20,7 +20,8 @@ use Rattle.live_core.specs.Lives.{LiveView, Calls, Happens, Makes, Meets, after_
 use Rattle.live_core.specs.Events.{run_limit}
 use Rattle.live_core.proofs.Making.{now_there}
 use Rattle.live_engine.specs.declared.live_line.LiveLine.TheVariants as l
-use Rattle.live_engine.specs.LiveLines.{IsOutOfNumbers, IsOverLimit, LiveHistory, MayComeNext, after_call, after_happening, code_of, happening_in, most_numbers, next_moment, not_given, planned_of}
+use Rattle.call_journal.specs.MadeCalls.{code_of}
+use Rattle.live_engine.specs.LiveLines.{IsOutOfNumbers, IsOverLimit, LiveHistory, MayComeNext, after_call, after_happening, happening_in, most_numbers, next_moment, not_given, planned_of}
 use Rattle.live_engine.specs.LiveRuns.{IsLiveHistory}
 use Rattle.live_engine.specs.own.LiveSteps.{IsAt, IsLonger, TakesLine}
 

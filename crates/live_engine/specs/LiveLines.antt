@@ -2,9 +2,6 @@
 -- All of it is this project's rule.
 use Rattle.std.specs.Prelude.{◌≡◌, ℕ, ◌+◌, ◌-◌, ◌^◌, ◌<◌, ◌≤◌, ◌⊎◌, true, max, nat_lt, if◌then◌else◌, List, [], ◌∷◌, ◌++◌, length}
 use Rattle.sched_time.specs.Times.{longest}
-use Rattle.sched_time.specs.declared.timing.Timing.TheVariants as timing
-use Rattle.queue_code.specs.declared.call.CodeCall.{CodeCall}
-use Rattle.queue_code.specs.declared.call.CodeCall.TheVariants as c
 use Rattle.queue_code.specs.Calls.{Planned, submits_task, task_count}
 use Rattle.executor_model.specs.declared.types.Event.{Event}
 use Rattle.executor_model.specs.declared.types.Event.TheVariants as v
@@ -18,6 +15,7 @@ use Rattle.trace_text.specs.Spelling.{event_line, FitsEvent, lines_text}
 use Rattle.call_text.specs.declared.call.CallLine.{CallLine}
 use Rattle.call_text.specs.declared.call.CallLine.TheVariants as call
 use Rattle.call_text.specs.Spelling.{call_line, FitsCall}
+use Rattle.call_journal.specs.MadeCalls.{code_of}
 use Rattle.live_core.specs.Lives.{after_clock, never}
 use Rattle.live_core.specs.Events.{run_limit}
 use Rattle.live_engine.specs.declared.live_line.LiveLine.{LiveLine}
@@ -29,6 +27,11 @@ use Rattle.live_engine.specs.declared.live_line.LiveLine.TheVariants as l
 abbrev pub live_line : LiveLine → List ℕ
 live_line (l.Event event) = event_line event
 live_line (l.Call made) = call_line made
+
+-- it makes a call
+abbrev pub IsCallLine : LiveLine → Type 0
+IsCallLine (l.Call made) = Unit {0}
+IsCallLine (l.Event event) = ⊥
 
 -- its numbers are in their ranges
 abbrev pub FitsLive : LiveLine → Type 0
@@ -54,18 +57,6 @@ no_history = record { calls = []; past = [] }
 -- the moment of the call that comes next: now, or 1 ns after the last accepted clock, whichever is later
 abbrev pub next_moment : LiveHistory → ℕ
 next_moment so_far = max (now_of so_far.calls (happenings so_far.past)) (after_clock so_far.past)
-
--- the call of the executor that a line makes, as the submission of this number where it submits a task
-abbrev pub code_of : ℕ → CallLine → CodeCall
-code_of number (call.Schedule delay) = c.Submit number timing.Once delay
-code_of number call.Execute = c.Submit number timing.Once 0
-code_of number (call.Rate first period) = c.Submit number (timing.Rate period) first
-code_of number (call.Fixed first delay) = c.Submit number (timing.Fixed delay) first
-code_of number (call.Cancel task) = c.Cancel task
-code_of number (call.Policy which value) = c.SetPolicy which value
-code_of number call.Shutdown = c.Shutdown
-code_of number call.ShutdownNow = c.ShutdownNow
-code_of number call.Ask = c.Ask
 
 -- a number that no task ever has, which stands for one that was not given out
 abbrev pub not_given : ℕ → ℕ

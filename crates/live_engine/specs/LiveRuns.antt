@@ -21,7 +21,7 @@ use Rattle.sched_engine.specs.Running.{IsUntouched}
 use Rattle.live_engine.specs.declared.live_line.LiveLine.{LiveLine}
 use Rattle.live_engine.specs.declared.live_line.LiveLine.TheVariants as l
 use Rattle.live_engine.specs.declared.report.LiveReport.{LiveReport}
-use Rattle.live_engine.specs.LiveLines.{LiveHistory, FitsLive, IsBeyond, MayCome, MayComeNext, input_of, live_history, live_line, next_moment, trace_length, trace_of}
+use Rattle.live_engine.specs.LiveLines.{LiveHistory, FitsLive, IsBeyond, IsCallLine, MayCome, MayComeNext, input_of, live_history, live_line, next_moment, trace_length, trace_of}
 
 -- ---- what stands behind the lines that were taken
 
@@ -40,9 +40,9 @@ BeginsWithBarred so_far bytes = BeginsWith bytes (λ line. MayComeNext so_far li
 abbrev pub BeginsBeyond : ℕ → LiveHistory → List ℕ → Type 0
 BeginsBeyond workers so_far bytes = BeginsWith bytes (λ line. MayComeNext so_far line × IsBeyond workers so_far line)
 
--- with one that may come, and for which there is room, so that nothing is wanting for it but memory
+-- with a call that may come, and for which there is room, so that nothing is wanting for it but memory; an event wants none
 abbrev pub BeginsWanting : ℕ → LiveHistory → List ℕ → Type 0
-BeginsWanting workers so_far bytes = BeginsWith bytes (λ line. MayComeNext so_far line × (IsBeyond workers so_far line → ⊥))
+BeginsWanting workers so_far bytes = BeginsWith bytes (λ line. IsCallLine line × MayComeNext so_far line × (IsBeyond workers so_far line → ⊥))
 
 -- some bytes begin with no line, or with one that may not come
 abbrev pub BeginsWithNone : LiveHistory → List ℕ → Type 0

@@ -1,5 +1,5 @@
 //! The lines of an answer, and their text.
-ghost use Rattle.std.specs.Prelude.{◌≡◌, IfSome, IsTrue, length};
+ghost use Rattle.std.specs.Prelude.{◌≡◌, [], IfSome, IfNone, IsTrue, length};
 ghost use Rattle.trace_text.specs.Spelling.{lines_text};
 ghost use Rattle.executor_model.specs.Flows.{lines_at};
 ghost use Rattle.byte_ends.specs.Ends.{CountsTries};
@@ -23,16 +23,17 @@ pub(crate) enum Told {
 }
 
 /// The lines of an answer, which the executor gave last: that of the answer, and one of each task that it ended. Where there are
-/// several, they are written in place of those in the list. `None` is want of memory.
+/// several, they are written in place of those in the list. `None` is want of memory for these.
 #[inline(always)]
 pub(crate) fn tell<A: Allocator>(
     executor: &ScheduledExecutor<A>,
     answer: Answer,
     lines: &mut Vec<Line, A>,
 ) -> Option<Told>
-    ensures { IfSome result
+    ensures told { IfSome result
         (λ told. lines_told told lines.new.items
         ≡ lines_at executor.now.table.moment (ending answer executor.now.ended)) }
+    ensures none { IfNone result (executor.now.ended ≡ [] → ⊥) }
 {
     if executor.ended().is_empty() {
         return Some(Told::One(Line::new(executor.now(), Message::Answer(answer))));

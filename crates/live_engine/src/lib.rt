@@ -23,6 +23,9 @@
 //! 1, .. in the order of their lines, whether they are accepted or not. An event `cancel K` whose number was not given out yet
 //! is answered `error no task`, and cancels no task, also none that is given that number later.
 //!
+//! Each call is noted in the journal that is handed in. A plan may make those that are noted in an empty one, also where the run ends
+//! at an error, and the text that `call_journal::plan_text` prints of them makes exactly these: [`noted_calls_may_be_planned`].
+//!
 //! # Errors
 //!
 //! | Error | When | What was written |
@@ -33,7 +36,7 @@
 //! | [`RunError::Read`] | the reader was at fault, or interrupted 1,000 times in a row | the answers to all whole lines read |
 //! | [`RunError::Write`] | the writer was at fault, took nothing, or was interrupted 1,000 times in a row | a front of some lines' answers |
 //! | [`RunError::Memory`] | memory was refused at the start | nothing, and nothing was read |
-//! | | memory was refused for a further line that may come, and for which there is room | the answers to all lines before |
+//! | | memory was refused for a further line that makes a call, that may come, and for which there is room | the answers to all lines before |
 //!
 //! There is no room for a call whose moment would be above 2^62 ns, for a submission where 2^32 numbers were given out, for a start
 //! that would begin a run whose number is 2^64 - 1, and for a line with whose answer the trace would have more than 2^64 - 2 lines.
@@ -41,13 +44,14 @@
 //! # Memory and cost
 //!
 //! A run takes two buffers of 64 KiB, what its executor takes, room for the lines of one answer, and the journal's calls. It takes
-//! memory only for submissions that need a slot, for longer answers than any before, and for calls that are noted.
+//! memory only for submissions that need a slot, for longer answers than any before, and for calls that are noted: for no event.
 #![tactic(auto)]
 
 mod answer_texts;
 mod answering;
 mod counts;
 mod engine;
+mod laws;
 mod live_line;
 mod one_line;
 mod opening;
@@ -60,6 +64,7 @@ mod stepping;
 mod stops;
 
 pub use engine::run;
+pub use laws::noted_calls_may_be_planned;
 pub use live_line::LiveLine;
 pub use opening::OpenError;
 pub use report::LiveReport;

@@ -17,7 +17,8 @@ use std::alloc::Allocator;
 
 /// Takes a line, and tells the lines of its answer: where there are several, they are written in place of those in the list. A call
 /// is noted before its answer is given out. Where the line is not taken, nothing is noted or counted, and the executor is somewhere on
-/// the way. Whether there is memory for a line is asked last: after whether it may come, and whether there is room for it.
+/// the way. Whether there is memory for a call is asked last: after whether it may come, and whether there is room for it. An
+/// event wants none.
 pub(crate) fn answer_line<A: Allocator>(
     executor: &mut ScheduledExecutor<A>,
     journal: &mut Journal<A>,

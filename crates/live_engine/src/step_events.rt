@@ -1,5 +1,5 @@
 //! The steps of events.
-ghost use Rattle.std.specs.Prelude.{◌≡◌, ◌≤◌, IfOk, IfErr};
+ghost use Rattle.std.specs.Prelude.{◌≡◌, ◌≤◌, [], IfOk, IfErr, OnOk};
 ghost use Rattle.executor_model.specs.declared.types.Event.TheVariants as v;
 ghost use Rattle.live_core.specs.Said as said;
 ghost use Rattle.live_core.specs.Said.{ending};
@@ -24,6 +24,7 @@ pub(crate) fn step_event<A: Allocator>(
         (λ answer. TakesLine executor.old executor.new (l.Event event)
         (ending answer executor.new.ended)) }
     ensures few { executor.new.count ≤ most_numbers }
+    ensures ended { OnOk result (executor.new.ended ≡ []) }
     ensures refuses { IfErr result (λ end. Refuses end executor.old (l.Event event)) }
 {
     match event {
@@ -39,6 +40,7 @@ fn clock<A: Allocator>(executor: &mut ScheduledExecutor<A>, moment: u64) -> Answ
     ensures takes { TakesLine executor.old executor.new (l.Event (v.Clock moment))
         (ending result executor.new.ended) }
     ensures few { executor.new.count ≡ executor.old.count }
+    ensures ended { executor.new.ended ≡ [] }
 {
     match executor.clock(moment) {
         Ok(()) => Answer::Clock,
@@ -53,6 +55,7 @@ fn start<A: Allocator>(executor: &mut ScheduledExecutor<A>, worker: u8) -> Resul
         (λ answer. TakesLine executor.old executor.new (l.Event (v.Start worker))
         (ending answer executor.new.ended)) }
     ensures few { executor.new.count ≡ executor.old.count }
+    ensures ended { OnOk result (executor.new.ended ≡ []) }
     ensures refuses { IfErr result (λ end. Refuses end executor.old (l.Event (v.Start worker))) }
 {
     match executor.start(worker) {
@@ -68,6 +71,7 @@ fn finish<A: Allocator>(executor: &mut ScheduledExecutor<A>, worker: u8, ending:
     ensures takes { TakesLine executor.old executor.new (l.Event (v.Finish worker ending))
         (said.ending result executor.new.ended) }
     ensures few { executor.new.count ≡ executor.old.count }
+    ensures ended { executor.new.ended ≡ [] }
 {
     match executor.finish(worker, ending) {
         Ok(ended) => finish_answer(worker, ended),
@@ -80,6 +84,7 @@ fn cancel<A: Allocator>(executor: &mut ScheduledExecutor<A>, task: u32) -> Answe
     ensures takes { TakesLine executor.old executor.new (l.Event (v.Cancel task))
         (ending result executor.new.ended) }
     ensures few { executor.new.count ≡ executor.old.count }
+    ensures ended { executor.new.ended ≡ [] }
 {
     match executor.cancel_number(task as u64) {
         Ok(effect) => Answer::Outside { task, effect },

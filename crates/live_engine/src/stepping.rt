@@ -1,7 +1,7 @@
 //! One line: a step of the executor.
-ghost use Rattle.std.specs.Prelude.{◌≤◌, IfOk, IfErr};
+ghost use Rattle.std.specs.Prelude.{◌≡◌, ◌≤◌, ◌⊎◌, [], IfOk, IfErr, OnOk};
 ghost use Rattle.live_core.specs.Said.{ending};
-ghost use Rattle.live_engine.specs.LiveLines.{FitsLive, most_numbers};
+ghost use Rattle.live_engine.specs.LiveLines.{FitsLive, IsCallLine, most_numbers};
 ghost use Rattle.live_engine.specs.own.LiveSteps.{TakesLine, Refuses};
 
 use crate::live_line::LiveLine;
@@ -12,7 +12,7 @@ use executor_model::Answer;
 use live_core::ScheduledExecutor;
 use std::alloc::Allocator;
 
-/// The executor takes a line. Where it does not, the answer is why.
+/// The executor takes a line; calls alone end tasks by a sweep. Where it does not take it, the answer is why.
 pub(crate) fn step<A: Allocator>(
     executor: &mut ScheduledExecutor<A>,
     line: LiveLine,
@@ -22,6 +22,7 @@ pub(crate) fn step<A: Allocator>(
     ensures takes { IfOk result
         (λ answer. TakesLine executor.old executor.new line (ending answer executor.new.ended)) }
     ensures few { executor.new.count ≤ most_numbers }
+    ensures ended { OnOk result ((executor.new.ended ≡ []) ⊎ IsCallLine line) }
     ensures refuses { IfErr result (λ end. Refuses end executor.old line) }
 {
     match line {

@@ -10,7 +10,8 @@ use Rattle.call_text.specs.declared.call.CallLine.TheVariants as call
 use Rattle.call_text.specs.Spelling.{FitsCall}
 use Rattle.live_engine.specs.declared.live_line.LiveLine.{LiveLine}
 use Rattle.live_engine.specs.declared.live_line.LiveLine.TheVariants as l
-use Rattle.live_engine.specs.LiveLines.{LiveHistory, MayComeNext, after_call, after_line, code_of, live_history, next_moment}
+use Rattle.call_journal.specs.MadeCalls.{code_of}
+use Rattle.live_engine.specs.LiveLines.{LiveHistory, MayComeNext, after_call, after_line, live_history, next_moment}
 use Rattle.live_plain.specs.PlainLines.{ArePlain, IsPlain, IsPlainCall}
 use Rattle.live_plain.specs.own.Scripts.{FitsIn, ScriptView, Shows, ShowsAll, moment_in, with_call}
 use Rattle.live_plain.proofs.Showing.{makes_shows, tasks_le}

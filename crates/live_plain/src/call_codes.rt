@@ -2,7 +2,7 @@
 ghost use Rattle.std.specs.Prelude.{◌≡◌, ◌<◌, ◌≤◌, MatchOption};
 ghost use Rattle.queue_code.specs.declared.call.CodeCall.TheVariants as codes;
 ghost use Rattle.call_text.specs.Spelling.{FitsPeriod, FitsSpan};
-ghost use Rattle.live_engine.specs.LiveLines as live;
+ghost use Rattle.call_journal.specs.MadeCalls as made;
 ghost use Rattle.live_plain.specs.own.Scripts.{FitsIn};
 
 use call_text::CallLine;
@@ -13,7 +13,7 @@ use sched_time::{LONGEST, Span, Timing, Unit, span};
 /// fit, or cancels a number that was not given out.
 pub(crate) fn code_of(numbers: u32, call: CallLine) -> Option<CodeCall>
     ensures { MatchOption result (FitsIn numbers call → ⊥)
-        (λ code. (code ≡ live.code_of numbers call) × FitsIn numbers call) }
+        (λ code. (code ≡ made.code_of numbers call) × FitsIn numbers call) }
 {
     match call {
         CallLine::Schedule(delay) => submission(numbers, Timing::Once, delay),

@@ -16,7 +16,7 @@ use Rattle.live_engine.specs.declared.answer_texts.Told.{Told}
 use Rattle.live_engine.specs.declared.answer_texts.Told.TheVariants as told
 use Rattle.live_engine.specs.declared.stops.PieceEnd.{PieceEnd}
 use Rattle.live_engine.specs.declared.stops.PieceEnd.TheVariants as e
-use Rattle.live_engine.specs.LiveLines.{LiveHistory, FitsLive, IsBeyond, IsOverLimit, MayComeNext, after_line, trace_length}
+use Rattle.live_engine.specs.LiveLines.{LiveHistory, FitsLive, IsBeyond, IsCallLine, IsOverLimit, MayComeNext, after_line, trace_length}
 
 -- the executor stands where a history leads
 pub record IsAt (workers : ℕ) (m : LiveView) (so_far : LiveHistory) : Type 0 where
@@ -38,21 +38,21 @@ pub record TakesAfter (workers : ℕ) (new : LiveView) (so_far : LiveHistory) (l
 abbrev pub TakesLine : LiveView → LiveView → LiveLine → Reply → Type 0
 TakesLine old new line r = (workers : ℕ) (so_far : LiveHistory) → IsAt workers old so_far → TakesAfter workers new so_far line r
 
--- why a line is not taken after this history: want of memory is told only of one that may come, and for which there is room
+-- why a line is not taken after this history: want of memory is told only of a call that may come, and for which there is room
 abbrev pub IsNotTaken : PieceEnd → ℕ → LiveHistory → LiveLine → Type 0
 IsNotTaken e.Part workers so_far line = ⊥
 IsNotTaken e.Refused workers so_far line = MayComeNext so_far line → ⊥
 IsNotTaken e.Full workers so_far line = MayComeNext so_far line × IsBeyond workers so_far line
-IsNotTaken e.Memory workers so_far line = MayComeNext so_far line × (IsBeyond workers so_far line → ⊥)
+IsNotTaken e.Memory workers so_far line = IsCallLine line × MayComeNext so_far line × (IsBeyond workers so_far line → ⊥)
 
--- why the executor does not take a line, which knows nothing of the length of the trace: it lacks memory only for one that is
--- answered by one line
+-- why the executor does not take a line, which knows nothing of the length of the trace: it lacks memory only for a call that
+-- is answered by one line
 abbrev pub IsNoStep : PieceEnd → ℕ → LiveHistory → LiveLine → Type 0
 IsNoStep e.Part workers so_far line = ⊥
 IsNoStep e.Refused workers so_far line = MayComeNext so_far line → ⊥
 IsNoStep e.Full workers so_far line = MayComeNext so_far line × IsOverLimit workers so_far line
 IsNoStep e.Memory workers so_far line =
-    MayComeNext so_far line × (IsOverLimit workers so_far line → ⊥) × (trace_length (after_line workers so_far line) ≡ trace_length so_far + 1)
+    IsCallLine line × MayComeNext so_far line × (IsOverLimit workers so_far line → ⊥) × (trace_length (after_line workers so_far line) ≡ trace_length so_far + 1)
 
 -- whatever history led here, the executor does not take a line, for this reason
 abbrev pub Refuses : PieceEnd → LiveView → LiveLine → Type 0

@@ -3,9 +3,9 @@ use Rattle.executor_model.specs.declared.Line.{Line}
 use Rattle.task_table.specs.declared.seat.TaskRef.{TaskRef}
 use Rattle.live_core.specs.Said.{ending}
 use Rattle.live_engine.specs.declared.live_line.LiveLine.{LiveLine}
-use Rattle.live_engine.specs.LiveLines.{most_lines}
+use Rattle.live_engine.specs.LiveLines.{IsCallLine, most_lines}
 use Rattle.live_engine.specs.own.LiveSteps.{lines_told, noted_line}
-use Rattle.live_engine.proofs.Lengths.{no_room, some_room}
+use Rattle.live_engine.proofs.Lengths.{ends_some, has_room, no_room, some_room}
 use Rattle.live_engine.proofs.Notings.{noted_after_room, nothing_noted}
 use Rattle.live_engine.proofs.one_line.answer_line.Goals as goal
 use Rattle.live_engine.proofs.one_line.answer_line.Goals.{in-Call+else-is_err, in_default-line}
@@ -23,9 +23,9 @@ returns-clause-answers g c =
       takes = c.in-Ok.ensures.takes;
       fits = c.requires.fits;
       room = λ workers so_far at counted.
-          (some_room c.args.executor.now new c.args.line c.in-Ok.answer before.written c.in-Ok.ensures.takes
+          (has_room c.args.executor.now new c.args.line c.in-Ok.answer before.written c.in-Ok.ensures.takes
           (subst (λ (ended : List TaskRef). length ended < most_lines - before.written) c.ended.ensures c.if-ended-counts.false) workers so_far at counted).1;
-      given = c.in-Some.ensures;
+      given = c.in-Some.ensures.told;
       counts = ap (λ n. record { read = before.read + 1; written = before.written + n }) many;
       notes = elim c.match-line.branch [
         | in-Call+else-is_err w ↦
@@ -44,10 +44,10 @@ returns-then-ended-counts-clause-refuses g c =
 
 pub returns-in_default-clause-refuses : goal.returns-in_default-clause-refuses
 returns-in_default-clause-refuses g c =
-    some_room c.args.executor.now c.step.new.executor c.args.line c.in-Ok.answer c.args.counts.now.written c.in-Ok.ensures.takes
+    some_room c.args.executor.now c.step.new.executor c.args.line c.in-Ok.answer c.args.counts.now.written (ends_some c.args.line c.step.new.executor.ended c.in-Ok.ensures.ended c.in_default.ensures.none) c.in-Ok.ensures.takes
     (subst (λ (ended : List TaskRef). length ended < most_lines - c.args.counts.now.written) c.ended.ensures c.if-ended-counts.false)
 
 pub returns-then-is_err-clause-refuses : goal.returns-then-is_err-clause-refuses
 returns-then-is_err-clause-refuses g c =
-    some_room c.args.executor.now c.step.new.executor c.args.line c.in-Ok.answer c.args.counts.now.written c.in-Ok.ensures.takes
+    some_room c.args.executor.now c.step.new.executor c.args.line c.in-Ok.answer c.args.counts.now.written (subst IsCallLine (sym c.in-Call.is) tt) c.in-Ok.ensures.takes
     (subst (λ (ended : List TaskRef). length ended < most_lines - c.args.counts.now.written) c.ended.ensures c.if-ended-counts.false)

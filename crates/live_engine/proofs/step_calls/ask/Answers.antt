@@ -22,7 +22,7 @@ returns-in-Ok-clause-takes g c = by c.ask_answer.result c.ask_answer.ensures.ans
 pub returns-in-Ok-clause-refuses : goal.returns-in-Ok-clause-refuses
 returns-in-Ok-clause-refuses g c =
     let old = c.args.executor.now in
-    memory_refuses old c.ask.new.self (l.Call call.Ask) _ c.ask_answer.result (takes_call old c.ask.new.self call.Ask _ c.in-Ok.ensures.made.makes c.in-Ok.ensures.stays.stays.workers c.in-Ok.ensures.near tt) refl c.ask_answer.ensures.memory
+    memory_refuses old c.ask.new.self (l.Call call.Ask) _ c.ask_answer.result tt (takes_call old c.ask.new.self call.Ask _ c.in-Ok.ensures.made.makes c.in-Ok.ensures.stays.stays.workers c.in-Ok.ensures.near tt) refl c.ask_answer.ensures.memory
 
 pub returns-in-Err-clause-refuses : goal.returns-in-Err-clause-refuses
 returns-in-Err-clause-refuses g c =

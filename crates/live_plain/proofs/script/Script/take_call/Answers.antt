@@ -1,7 +1,8 @@
 use Rattle.std.proofs.Common.{◌≡◌, ◌≤◌, sym, ap, ◌∙◌, subst}
 use Rattle.sched_time.specs.Times.{longest}
 use Rattle.live_engine.specs.declared.live_line.LiveLine.TheVariants as l
-use Rattle.live_engine.specs.LiveLines.{after_line, code_of}
+use Rattle.call_journal.specs.MadeCalls.{code_of}
+use Rattle.live_engine.specs.LiveLines.{after_line}
 use Rattle.live_plain.specs.own.Scripts.{FitsIn, ScriptView, Shows, moment_in}
 use Rattle.live_plain.proofs.Taking.{IsTested, call_shows}
 use Rattle.live_plain.proofs.script.Script.take_call.Goals as goal
