@@ -27,7 +27,8 @@ use Rattle.live_core.specs.Said.{tasks_in, alive_in}
 use Rattle.live_core.specs.Shutting.{IsGone}
 use Rattle.live_core.specs.own.Places.{IsEmptyAt}
 use Rattle.live_core.specs.own.Slots.{held_numbers, IsIndex}
-use Rattle.live_core.specs.own.Formed.{AreAlive, AreAliveBut}
+use Rattle.live_core.specs.Lives.{AreAlive}
+use Rattle.live_core.specs.own.Formed.{AreAliveBut}
 use Rattle.live_core.specs.own.Shed.{released}
 use Rattle.live_core.proofs.Held.{number_there}
 use Rattle.live_core.proofs.Indexed.{one_slot}

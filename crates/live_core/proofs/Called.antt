@@ -8,8 +8,8 @@ use Rattle.executor_model.specs.Histories.{is_submit}
 use Rattle.task_table.specs.declared.seat.Seat.{Seat}
 use Rattle.task_table.specs.declared.seat.TaskRef.{TaskRef}
 use Rattle.task_table.specs.Tables.{TableView, workers_of, CallSteps}
-use Rattle.live_core.specs.Lives.{LiveView, Calls, never, moment_of_call}
-use Rattle.live_core.specs.own.Formed.{AreNoted, AreAlive, IsLive}
+use Rattle.live_core.specs.Lives.{LiveView, Calls, never, moment_of_call, AreAlive}
+use Rattle.live_core.specs.own.Formed.{AreNoted, IsLive}
 use Rattle.live_core.proofs.Making.{MayAdd}
 use Rattle.live_core.proofs.Steps.{may_add, makes_other}
 use Rattle.live_core.proofs.Living.{live_call}

@@ -10,7 +10,7 @@ use Rattle.task_table.specs.Seats.{slot_of}
 use Rattle.task_table.specs.Tables.{TableView, workers_of}
 use Rattle.task_table.specs.Changes.{emptied, grown}
 use Rattle.task_table.specs.Endings.{SweepEnds}
-use Rattle.live_core.specs.Lives.{LiveView, KeepsSlots, AreGiven, AreApart, Stays}
+use Rattle.live_core.specs.Lives.{LiveView, KeepsSlots, AreGiven, AreApart, AreAlive, Stays}
 use Rattle.live_core.specs.own.Slots.{held_numbers, number_in, LeavesNumbers, LeavesSlots, LeavesBelow}
 use Rattle.live_core.specs.own.Formed.{AreNoted}
 use Rattle.live_core.proofs.Alive.{set_case, LeavesThere}
@@ -115,8 +115,9 @@ apart m free entries slot_room ended_room noted i j x y at_i at_j same =
 
 -- where the slots are noted, and the numbers stay
 pub stays_noted : (m new : LiveView) (free : List ℕ) (entries : List TaskRef) (slot_room ended_room : ℕ) → workers_of new.table ≡ workers_of m.table → new.earliest ≡ m.earliest →
-    LeavesBelow m.count m.table.slots new.table.slots → (new.count ≡ m.count → length new.table.slots ≡ length m.table.slots) → AreNoted new.table.slots new.count free entries slot_room ended_room → Stays m new new.count
-stays_noted m new free entries slot_room ended_room width same leaves size noted = record {
+    LeavesBelow m.count m.table.slots new.table.slots → (new.count ≡ m.count → length new.table.slots ≡ length m.table.slots) → AreNoted new.table.slots new.count free entries slot_room ended_room →
+    AreAlive new.table.slots → Stays m new new.count
+stays_noted m new free entries slot_room ended_room width same leaves size noted alive = record {
   workers = width;
   earliest = same;
   count = refl;
@@ -124,13 +125,14 @@ stays_noted m new free entries slot_room ended_room width same leaves size noted
   size = size;
   given = given new free entries slot_room ended_room noted;
   apart = apart new free entries slot_room ended_room noted;
+  alive = alive;
 }
 
 -- the same where none was given out
 pub stays_left : (m new : LiveView) (free : List ℕ) (entries : List TaskRef) (slot_room ended_room : ℕ) → workers_of new.table ≡ workers_of m.table → new.earliest ≡ m.earliest →
-    LeavesSlots m.table.slots new.table.slots → AreNoted new.table.slots new.count free entries slot_room ended_room → Stays m new new.count
-stays_left m new free entries slot_room ended_room width same leaves noted =
-    stays_noted m new free entries slot_room ended_room width same (leaves_below m.count m.table.slots new.table.slots leaves.numbers) (λ q. leaves.size) noted
+    LeavesSlots m.table.slots new.table.slots → AreNoted new.table.slots new.count free entries slot_room ended_room → AreAlive new.table.slots → Stays m new new.count
+stays_left m new free entries slot_room ended_room width same leaves noted alive =
+    stays_noted m new free entries slot_room ended_room width same (leaves_below m.count m.table.slots new.table.slots leaves.numbers) (λ q. leaves.size) noted alive
 
 pub always_on_ok : {T E P : Type 0} (r : Result T E) → P → OnOk r P
 always_on_ok (Ok x) p = p

@@ -7,8 +7,8 @@ use Rattle.executor_model.specs.declared.types.Happening.TheVariants as h
 use Rattle.executor_model.specs.Answers.{Reply}
 use Rattle.executor_model.specs.Histories.{entry_of}
 use Rattle.task_table.specs.declared.seat.TaskRef.{TaskRef}
-use Rattle.live_core.specs.Lives.{LiveView, Calls, Happens}
-use Rattle.live_core.specs.own.Formed.{AreNoted, AreAlive, IsLive}
+use Rattle.live_core.specs.Lives.{LiveView, Calls, Happens, AreAlive}
+use Rattle.live_core.specs.own.Formed.{AreNoted, IsLive}
 
 -- after a call
 pub live_call : (m new : LiveView) (p : Planned) (r : Reply) (free : List ℕ) (entries : List TaskRef) (slot_room ended_room : ℕ) (free' : List ℕ) (entries' : List TaskRef) (slot_room' ended_room' : ℕ) → IsLive m free entries slot_room ended_room →

@@ -127,6 +127,10 @@ noted_room slots count free slot x entries slot_room ended_room there noted =
     let few = has_room (held_numbers slots) free slot x.number (number_there slots slot x there) noted.empty in
     omega (arith, few, held_length slots, noted.room)
 
+-- the slots that are noted as empty, and the tasks in slots
+pub noted_count : (slots : List (Option Seat)) (count : ℕ) (free : List ℕ) (entries : List TaskRef) (slot_room ended_room : ℕ) → AreNoted slots count free entries slot_room ended_room → length free + tasks_in slots ≡ length slots
+noted_count slots count free entries slot_room ended_room noted = omega (arith, noted.empty.count, held_length slots, held_count slots)
+
 -- where no slot is empty, each holds a task
 pub noted_full : (slots : List (Option Seat)) (count : ℕ) (free : List ℕ) (entries : List TaskRef) (slot_room ended_room : ℕ) → AreNoted slots count free entries slot_room ended_room → length free ≡ 0 → AreTaken slots
 noted_full slots count free entries slot_room ended_room noted none = omega (arith, noted.empty.count, none, held_length slots, held_count slots)
@@ -142,7 +146,7 @@ twice_grown m new all is =
     let more = 2 * n + 4 - n in
     let long : length new.slots ≡ n + more = ap (λ (v : TableView). length v.slots) is ∙ (length-append m.slots (replicate more None) ∙ ap (λ (k : ℕ). n + k) (length-replicate more None)) in
     let tasks : tasks_in new.slots ≡ tasks_in m.slots = ap (λ (v : TableView). tasks_in v.slots) is ∙ tasks_grown m.slots more in
-    inr (all, omega (arith, long, tasks, all))
+    inr (all, omega (arith, long), omega (arith, long, tasks, all))
 
 pub twice_on_ok : {T E : Type 0} (r : Result T E) (m new : TableView) (slots : ℕ) → slots ≡ 2 * length m.slots + 4 → AreTaken m.slots → OnOk r (new ≡ grown m slots) → OnOk r (GrowsWhereTaken 4 m.slots new.slots)
 twice_on_ok (Ok x) m new slots twice all is = twice_grown m new all (is ∙ ap (grown m) twice)

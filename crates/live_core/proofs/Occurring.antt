@@ -16,9 +16,9 @@ use Rattle.task_table.specs.declared.seat.TaskRef.{TaskRef}
 use Rattle.task_table.specs.Tables.{TableView, workers_of, EventSteps}
 use Rattle.task_table.specs.Runs.{IsFinishError, FailsFinish}
 use Rattle.task_table.specs.Changes.{at_moment}
-use Rattle.live_core.specs.Lives.{LiveView, Happens, never, quiet, passed}
+use Rattle.live_core.specs.Lives.{LiveView, Happens, never, quiet, passed, AreAlive}
 use Rattle.live_core.specs.Events.{Fails, finish_reply}
-use Rattle.live_core.specs.own.Formed.{AreNoted, AreAlive, IsLive}
+use Rattle.live_core.specs.own.Formed.{AreNoted, IsLive}
 use Rattle.live_core.proofs.Steps.{meets_clock, meets_other}
 use Rattle.live_core.proofs.Living.{live_event}
 use Rattle.live_core.proofs.Noted.{noted_same}

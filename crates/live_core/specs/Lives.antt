@@ -1,6 +1,6 @@
 -- What contracts see of an executor whose calls are made while it runs, and where it stands.
 -- All of it is this project's rule.
-use Rattle.std.specs.Prelude.{◌≡◌, ℕ, ◌+◌, ◌^◌, ◌<◌, ◌≤◌, max, nat_lt, List, [], ◌∷◌, ◌++◌, length, Some}
+use Rattle.std.specs.Prelude.{◌≡◌, ℕ, ◌+◌, ◌^◌, ◌<◌, ◌≤◌, max, nat_lt, true, Option, List, [], ◌∷◌, ◌++◌, length, Some}
 use Rattle.queue_code.specs.Calls.{Planned, task_count}
 use Rattle.executor_model.specs.declared.types.Happening.{Happening}
 use Rattle.executor_model.specs.declared.types.Happening.TheVariants as h
@@ -12,7 +12,7 @@ use Rattle.executor_model.specs.Flows.{lines_of, lines_at}
 use Rattle.executor_laws.specs.Additions.{AllLookBelow}
 use Rattle.task_table.specs.declared.seat.Seat.{Seat}
 use Rattle.task_table.specs.declared.seat.TaskRef.{TaskRef}
-use Rattle.task_table.specs.Seats.{slot_of}
+use Rattle.task_table.specs.Seats.{task_in, slot_of, is_alive}
 use Rattle.task_table.specs.Tables as tables
 use Rattle.task_table.specs.Tables.{TableView, workers_of}
 
@@ -91,9 +91,14 @@ AreGiven m = (i : ℕ) (x : Seat) → slot_of m.table.slots i ≡ Some x → x.n
 abbrev pub AreApart : LiveView → Type 0
 AreApart m = (i j : ℕ) (x y : Seat) → slot_of m.table.slots i ≡ Some x → slot_of m.table.slots j ≡ Some y → x.number ≡ y.number → i ≡ j
 
+-- of each task in a slot something may come: it waits for a run, or is kept, or a run of it is under way. So a kept task that is
+-- dropped has left its slot
+abbrev pub AreAlive : List (Option Seat) → Type 0
+AreAlive slots = (i : ℕ) (x : Seat) → slot_of slots i ≡ Some x → is_alive (task_in x) ≡ true
+
 -- what each call leaves, and each event but an accepted clock: as many workers as there were, the least moment of the call that
--- comes next, and so many numbers that were given out; each task keeps its slot, as long as it has one, and has no other; and where
--- no number was given out, there are as many slots
+-- comes next, and so many numbers that were given out; each task keeps its slot, as long as something may come of it and no longer,
+-- and has no other; and where no number was given out, there are as many slots
 pub record Stays (old new : LiveView) (numbers : ℕ) : Type 0 where
   pub workers : workers_of new.table ≡ workers_of old.table
   pub earliest : new.earliest ≡ old.earliest
@@ -102,6 +107,7 @@ pub record Stays (old new : LiveView) (numbers : ℕ) : Type 0 where
   pub size : numbers ≡ old.count → length new.table.slots ≡ length old.table.slots
   pub given : AreGiven new
   pub apart : AreApart new
+  pub alive : AreAlive new.table.slots
 
 -- and no task was ended
 pub record StaysQuiet (old new : LiveView) (numbers : ℕ) : Type 0 where

@@ -99,9 +99,10 @@ IsSeated m (su.Rejected number) = IsNew m.table.slots number
 abbrev pub AreTaken : List (Option Seat) → Type 0
 AreTaken slots = tasks_in slots ≡ length slots
 
--- there are as many slots as before; or each held a task, and now there are at most twice as many as hold tasks, and so many more
+-- there are as many slots as before; or each held a task, and now there are at least twice as many as there were, and at most twice
+-- as many as hold tasks, and so many more
 abbrev pub GrowsWhereTaken : ℕ → List (Option Seat) → List (Option Seat) → Type 0
-GrowsWhereTaken more old new = (length new ≡ length old) ⊎ (AreTaken old × (length new ≤ 2 * tasks_in new + more))
+GrowsWhereTaken more old new = (length new ≡ length old) ⊎ (AreTaken old × (2 * length old ≤ length new) × (length new ≤ 2 * tasks_in new + more))
 
 -- what a submission leaves of the slots: a task that is rejected wants none
 abbrev pub SlotsFor : List (Option Seat) → List (Option Seat) → Submitted → Type 0

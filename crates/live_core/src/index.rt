@@ -1,8 +1,8 @@
 //! Which slot each number has.
-ghost use Rattle.std.specs.Prelude.{◌≡◌, ℕ, ◌+◌, ◌<◌, ◌≤◌, ◌++◌, [], ◌∷◌, length, take, false, IfSome, IfNone, OnOk, OnErr};
+ghost use Rattle.std.specs.Prelude.{◌≡◌, ℕ, ◌+◌, ◌<◌, ◌≤◌, ◌++◌, [], ◌∷◌, length, take, drop, true, false, IfSome, IfNone, OnOk, OnErr};
 ghost use Rattle.std.specs.List.{filter};
 ghost use Rattle.live_core.specs.Said.{tasks_in};
-ghost use Rattle.live_core.specs.own.Slots.{IsBelow, HasEntry, HasNone, IsIndex, held_numbers, is_held};
+ghost use Rattle.live_core.specs.own.Slots.{IsBelow, HasEntry, HasNone, held_numbers, is_held};
 
 use std::alloc::{AllocError, Allocator};
 use std::marker::Model;
@@ -59,30 +59,18 @@ impl<A: Allocator> NumberIndex<A> {
         None
     }
 
-    /// Drops the entries whose slot in this table holds another task by now, or none.
+    /// Drops the entries whose slot in this table holds another task by now, or none. At most so many tasks have a slot.
     #[cold]
     #[inline(never)]
-    pub(crate) fn compact<B: Allocator>(&mut self, table: &TaskTable<B>)
+    pub(crate) fn compact<B: Allocator>(&mut self, table: &TaskTable<B>, tasks: usize)
+        requires { tasks_in table.now.slots ≤ tasks }
         ensures left { self.new
             ≡ record self.old
             { entries = filter (is_held (held_numbers table.now.slots)) self.old.entries } }
         ensures few { length self.new.entries ≤ tasks_in table.now.slots }
     {
-        let kept = keep_held(&mut self.entries, table.seats());
+        let kept = keep_held(&mut self.entries, table.seats(), tasks);
         self.entries.truncate(kept);
-    }
-
-    /// Drops the entries that are stale for this table, where there is no room for one more.
-    pub(crate) fn tidy<B: Allocator>(&mut self, table: &TaskTable<B>)
-        ensures index { (count : ℕ) → IsIndex (held_numbers table.now.slots) self.old.entries count
-            → IsIndex (held_numbers table.now.slots) self.new.entries count }
-        ensures room { tasks_in table.now.slots < self.old.room
-            → length self.new.entries < self.new.room }
-        ensures same { self.new.room ≡ self.old.room }
-    {
-        if self.is_full() {
-            self.compact(table);
-        }
     }
 
     /// Makes room for so many entries in all.
@@ -101,7 +89,8 @@ impl<A: Allocator> NumberIndex<A> {
 
     /// Whether there is no room for one more entry.
     pub(crate) fn is_full(&self) -> bool
-        ensures { result ≡ false → length self.now.entries < self.now.room }
+        ensures room { result ≡ false → length self.now.entries < self.now.room }
+        ensures full { result ≡ true → self.now.room ≤ length self.now.entries }
     {
         self.entries.len() >= self.entries.capacity()
     }
@@ -117,22 +106,42 @@ impl<A: Allocator> NumberIndex<A> {
     }
 }
 
-/// Moves the entries whose slot holds their task to the front, in their order, and says how many there are.
-fn keep_held(entries: &mut [TaskRef], slots: &[Option<Seat>]) -> usize
+/// Moves the entries whose slot holds their task to the front, in their order, and says how many there are: at most so many.
+fn keep_held(entries: &mut [TaskRef], slots: &[Option<Seat>], tasks: usize) -> usize
+    requires { length (filter (is_held (held_numbers slots.now)) entries.old) ≤ tasks }
     ensures kept { take result entries.new ≡ filter (is_held (held_numbers slots.now)) entries.old }
     ensures size { length entries.new ≡ length entries.old }
 {
-    let mut kept = 0;
-    let mut i = 0;
-    while i < entries.len() {
+    let from = gather_held(entries, slots, tasks);
+    let kept = entries.len() - from;
+    entries.copy_within(from.., 0);
+    kept
+}
+
+/// Moves them to the end, and says from where on they stand. The newest ones come first: once all are found, the older ones, which
+/// are stale, are not looked at.
+fn gather_held(entries: &mut [TaskRef], slots: &[Option<Seat>], tasks: usize) -> usize
+    requires { length (filter (is_held (held_numbers slots.now)) entries.old) ≤ tasks }
+    ensures held { drop result entries.new ≡ filter (is_held (held_numbers slots.now)) entries.old }
+    ensures within { result ≤ length entries.new }
+    ensures size { length entries.new ≡ length entries.old }
+{
+    let all = entries.len();
+    let first = all.saturating_sub(tasks);
+    let mut from = all;
+    let mut i = all;
+    while i > 0 {
+        i -= 1;
         let entry = entries[i];
         if is_held_in(slots, entry) {
-            entries[kept] = entry;
-            kept += 1;
+            from -= 1;
+            entries[from] = entry;
+            if from == first {
+                return from;
+            }
         }
-        i += 1;
     }
-    kept
+    from
 }
 
 /// Whether the slot of a task holds it.

@@ -44,12 +44,14 @@
 //! A contract sees the executor as a [`LiveView`](../../specs/Lives.antt). The calls need not be known before: for each call and
 //! event its contract says, whatever calls and history led here, that the executor stands where the longer ones lead, and what is
 //! answered is the answer of the executor's equations (`Calls` and `Happens`, in `specs/Lives.antt`; the answers are in
-//! `specs/Said.antt`, `Events.antt`, `Cancels.antt` and `Shutting.antt`). So its lines, as
-//! [`add_lines`](ScheduledExecutor::add_lines) adds them, are those of a trace of all calls made.
+//! `specs/Said.antt`, `Events.antt`, `Cancels.antt` and `Shutting.antt`). That there are such for each executor
+//! is a law ([`each_executor_stands`]). So its lines, as [`add_lines`](ScheduledExecutor::add_lines) adds them, are those of a
+//! trace of all calls made.
 //!
 //! A submission has a number, 0, 1, and so on, whether it is accepted or rejected, and an accepted one has a task. A [`TaskRef`]
-//! names the task by its number and the slot that it has while it is alive. A task keeps its slot, and no other one has it
-//! meanwhile, so what belongs to a task may be kept by its slot (`Stays`, in `specs/Lives.antt`). A cancel, and whether a task waits,
+//! names the task by its number and the slot that it has while it is alive, and no longer: a slot holds no task of which nothing
+//! may come any more. A task keeps its slot, and no other one has it meanwhile, so what belongs to a task may be kept by its slot
+//! (`Stays`, in `specs/Lives.antt`). A cancel, and whether a task waits,
 //! go by the number alone, so a slot that another task uses by now, or a forged one, does no harm. Once a task is over, as it was run,
 //! ended, or cancelled and left the queue, its slot may hold another one. [`ended`](ScheduledExecutor::ended) has the tasks that the
 //! last call or event ended: the list of `shutdownNow`, and what a shutdown or a policy cancels.
@@ -78,12 +80,13 @@
 //! Memory is asked for by `new`, by the four submissions and by [`reserve`](ScheduledExecutor::reserve), for lines by `add_lines`,
 //! and by no other call; a submission asks only where each slot holds a task. Where it is refused, nothing has changed. There are as
 //! many slots as `reserve` was asked for, or at most twice as many as there were tasks alive at once, and two; none is given back.
+//! A submission that makes more makes at least as many as there are.
 //! Each has room for a task, an entry in each of two queues, four entries in an index by number, and notes that it is empty and that
 //! its task was ended.
 //!
 //! With n tasks alive, a submission, a start, a finish or a cancel takes a time in the order of log n, for changes of binary heaps
-//! and a search. A submission where the index is full goes over it, and one where all slots are taken over these too, which is
-//! constant on average. A start and a sweep take as long as that for each kept task that they meet. A shutdown or a policy that
+//! and a search. A submission where the index is full goes over it, from the newest entry on until each task that is alive is found,
+//! and one where all slots are taken over these too, which is constant on average. A start and a sweep take as long as that for each kept task that they meet. A shutdown or a policy that
 //! sweeps goes over all slots, and sorts what it ends. `ask` goes over the workers. All other calls take constant time, but
 //! `reserve`, and `add_lines`, which goes over what was ended.
 //!
@@ -101,6 +104,7 @@ mod events;
 mod executor;
 mod finding;
 mod index;
+mod laws;
 mod lines;
 mod notes;
 mod place;
@@ -117,4 +121,5 @@ mod sweeps;
 pub use answers::Submitted;
 pub use error::{CallError, LinesError, MakeError};
 pub use executor::ScheduledExecutor;
+pub use laws::each_executor_stands;
 pub use task_table::{Asked, Begun, Ended, StartError, TaskRef};

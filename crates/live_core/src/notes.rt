@@ -1,5 +1,5 @@
 //! Which slots are empty, and which slot each number has.
-ghost use Rattle.std.specs.Prelude.{◌≡◌, ℕ, ◌+◌, ◌-◌, ◌<◌, ◌≤◌, ◌++◌, List, [], ◌∷◌, length, IfSome, IfNone, OnOk, OnErr};
+ghost use Rattle.std.specs.Prelude.{◌≡◌, ℕ, ◌+◌, ◌-◌, ◌*◌, ◌<◌, ◌≤◌, ◌++◌, List, [], ◌∷◌, length, IfSome, IfNone, OnOk, OnErr};
 ghost use Rattle.std.specs.List.{range_with_len};
 ghost use Rattle.live_core.specs.Said.{tasks_in};
 ghost use Rattle.live_core.specs.own.Slots.{IsBelow, HasEntry, HasNone, IsIndex, held_numbers};
@@ -86,13 +86,20 @@ impl<A: Allocator> Notes<A> {
     /// Drops the entries of the index that are stale for this table's slots, where there is no room for one more. Then there is, where
     /// not every slot that there is room to note holds a task.
     pub(crate) fn tidy_index<B: Allocator>(&mut self, table: &TaskTable<B>)
+        requires { length self.old.free + tasks_in table.now.slots ≡ length table.now.slots }
         ensures index { (count : ℕ) → IsIndex (held_numbers table.now.slots) self.old.entries count
             → IsIndex (held_numbers table.now.slots) self.new.entries count }
         ensures room { tasks_in table.now.slots < self.old.slot_room
             → length self.new.entries < self.new.index_room }
+        ensures left { length self.old.entries < self.old.index_room → self.new ≡ self.old }
+        ensures few { self.old.index_room ≤ length self.old.entries
+            → length self.new.entries ≤ tasks_in table.now.slots }
         ensures rest { self.new ≡ record self.old { entries = self.new.entries } }
     {
-        self.index.tidy(table);
+        if self.index.is_full() {
+            let tasks = table.slots() - self.free.len();
+            self.index.compact(table, tasks);
+        }
     }
 
     /// Makes room to note each of so many slots: that it is empty, and in the index.
@@ -102,6 +109,7 @@ impl<A: Allocator> Notes<A> {
     /// `AllocError` where the memory for them is refused: no slot is noted otherwise then.
     pub(crate) fn reserve(&mut self, slots: u32) -> Result<(), AllocError>
         ensures room { OnOk result (slots ≤ self.new.slot_room) }
+        ensures index { OnOk result (4 * slots ≤ self.new.index_room) }
         ensures grows { self.old.slot_room ≤ self.new.slot_room }
         ensures free { self.new.free ≡ self.old.free }
         ensures entries { self.new.entries ≡ self.old.entries }

@@ -7,7 +7,8 @@ ghost use Rattle.executor_model.specs.Answers.{bare, kind_of};
 ghost use Rattle.executor_model.specs.declared.types.Answer.TheVariants as answer;
 ghost use Rattle.task_table.specs.Tables.{workers_of, CallSteps};
 ghost use Rattle.live_core.specs.Said.{tasks_in, is_waiting_there};
-ghost use Rattle.live_core.specs.own.Formed.{AreNoted, AreAlive};
+ghost use Rattle.live_core.specs.Lives.{AreAlive};
+ghost use Rattle.live_core.specs.own.Formed.{AreNoted};
 ghost use Rattle.live_core.specs.own.Slots.{LeavesBelow};
 
 use crate::notes::Notes;

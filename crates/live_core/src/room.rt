@@ -2,7 +2,8 @@
 ghost use Rattle.std.specs.Prelude.{◌≡◌, ◌<◌, length, OnOk, OnErr, vec_capacity};
 ghost use Rattle.task_table.specs.Changes.{grown};
 ghost use Rattle.live_core.specs.Said.{AreTaken, GrowsWhereTaken};
-ghost use Rattle.live_core.specs.own.Formed.{AreNoted, AreAlive, IsRoomier};
+ghost use Rattle.live_core.specs.Lives.{AreAlive};
+ghost use Rattle.live_core.specs.own.Formed.{AreNoted, IsRoomier};
 ghost use Rattle.live_core.specs.own.Slots.{LeavesNumbers};
 
 use crate::notes::Notes;

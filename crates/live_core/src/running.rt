@@ -9,7 +9,8 @@ ghost use Rattle.task_table.specs.Tables.{workers_of, Stands, EventSteps};
 ghost use Rattle.task_table.specs.Firsts.{NoneMet};
 ghost use Rattle.task_table.specs.Runs.{IsFree, IsFull, IsLeft, FailsFinish};
 ghost use Rattle.live_core.specs.Events.{start_reply, finish_reply, run_limit, IsRunBy, IsLeftThere};
-ghost use Rattle.live_core.specs.own.Formed.{AreNoted, AreAlive};
+ghost use Rattle.live_core.specs.Lives.{AreAlive};
+ghost use Rattle.live_core.specs.own.Formed.{AreNoted};
 ghost use Rattle.live_core.specs.own.Shed.{Sheds, released};
 ghost use Rattle.live_core.specs.own.Slots.{LeavesSlots};
 

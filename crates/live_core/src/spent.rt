@@ -2,7 +2,8 @@
 ghost use Rattle.std.specs.Prelude.{◌≡◌, ℕ, not, Some};
 ghost use Rattle.task_table.specs.Seats.{task_in, is_alive};
 ghost use Rattle.live_core.specs.Cancels.{IsHeldAlive};
-ghost use Rattle.live_core.specs.own.Formed.{AreNoted, AreAlive, AreAliveBut, IsRoomier};
+ghost use Rattle.live_core.specs.Lives.{AreAlive};
+ghost use Rattle.live_core.specs.own.Formed.{AreNoted, AreAliveBut, IsRoomier};
 ghost use Rattle.live_core.specs.own.Places.{IsSlotOf};
 ghost use Rattle.live_core.specs.own.Slots.{LeavesSlots};
 

@@ -15,7 +15,8 @@ ghost use Rattle.task_table.specs.declared.seat.Seat as seats;
 ghost use Rattle.task_table.specs.Tables.{workers_of, CallSteps, IsNextCall, Stands, StandsBefore};
 ghost use Rattle.live_core.specs.Said.{ending};
 ghost use Rattle.live_core.specs.Shutting.{shutdown_answer, AreGone};
-ghost use Rattle.live_core.specs.own.Formed.{AreNoted, AreAlive};
+ghost use Rattle.live_core.specs.Lives.{AreAlive};
+ghost use Rattle.live_core.specs.own.Formed.{AreNoted};
 ghost use Rattle.live_core.specs.own.Places.{IsEmptyAt};
 ghost use Rattle.live_core.specs.own.Slots.{LeavesSlots};
 

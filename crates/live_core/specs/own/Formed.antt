@@ -9,7 +9,7 @@ use Rattle.task_table.specs.declared.seat.TaskRef.{TaskRef}
 use Rattle.task_table.specs.Seats.{task_in, slot_of, is_alive}
 use Rattle.task_table.specs.Tables as tables
 use Rattle.task_table.specs.Tables.{TableView, workers_of}
-use Rattle.live_core.specs.Lives.{LiveView, Stands}
+use Rattle.live_core.specs.Lives.{LiveView, Stands, AreAlive}
 use Rattle.live_core.specs.own.Slots.{held_numbers, AreEmpty, IsIndex}
 
 -- the empty slots of a table and the index of its numbers are known, and there is room to note that each slot is empty, that it has a
@@ -20,11 +20,7 @@ pub record AreNoted (slots : List (Option Seat)) (count : ℕ) (free : List ℕ)
   pub room : length slots ≤ slot_room
   pub spare : length slots ≤ ended_room
 
--- of each task in a slot something may come: it waits for a run, or is kept, or a run of it is under way
-abbrev pub AreAlive : List (Option Seat) → Type 0
-AreAlive slots = (i : ℕ) (x : Seat) → slot_of slots i ≡ Some x → is_alive (task_in x) ≡ true
-
--- the same of each but the task in one slot, of which nothing need come
+-- of each task in a slot something may come, but for the task in this slot
 abbrev pub AreAliveBut : ℕ → List (Option Seat) → Type 0
 AreAliveBut slot slots = (i : ℕ) (x : Seat) → slot_of slots i ≡ Some x → (slot ≡ i → ⊥) → is_alive (task_in x) ≡ true
 

@@ -1,32 +1,15 @@
--- An entry is kept or dropped.
-use Rattle.std.proofs.Common.{◌≡◌, ◌+◌, ◌<◌, length, get_or, sym, ◌∙◌, subst, arith, List}
-use Rattle.std.proofs.lemmas.List.{get_or_default}
-use Rattle.task_table.specs.declared.seat.TaskRef.{TaskRef}
-use Rattle.live_core.specs.own.Slots.{held_numbers, is_held}
-use Rattle.live_core.proofs.Compacted.{Compacts, compacts_kept, compacts_left, compacts_all}
+-- The entries at the end come to the front.
+use Rattle.std.proofs.Common.{◌≡◌, ◌+◌, ◌-◌, ◌∙◌, ℕ, take, drop, length, ap, arith}
+use Rattle.std.specs.List.{copy_within}
+use Rattle.std.proofs.lemmas.List.{take_rest, length-drop}
+use Rattle.std.proofs.lemmas.List.Edits.{take-paste}
 use Rattle.live_core.proofs.index.keep_held.Goals as goal
-use Rattle.live_core.proofs.index.keep_held.Goals.{then-is_held_in, else-is_held_in}
-
-pub loop-i-preserved : goal.loop-i-preserved
-loop-i-preserved c =
-    let test = is_held (held_numbers c.args.slots.now) in
-    let old = c.args.entries.now in
-    let now = c.loop-i.entries in
-    let kept = c.loop-i.kept in
-    let i = c.loop-i.i in
-    let none : TaskRef = record { number = 0; slot = 0 } in
-    let x = get_or now i none in
-    let low : i < length now = omega (arith, c.loop-i-test.true) in
-    let read : x ≡ get_or now i x = get_or_default now i none x low in
-    elim c.if-is_held_in.branch [
-      | then-is_held_in w ↦
-          subst (λ n. Compacts test old c.if-is_held_in.entries n (i + 1)) (sym w.kept-is)
-          (subst (λ (l : List TaskRef). Compacts test old l (kept + 1) (i + 1)) (sym w.entries-is) (compacts_kept test old now kept i x low read (sym c.is_held_in.ensures ∙ w.if-is_held_in.true) c.loop-i.invariant))
-      | else-is_held_in w ↦
-          subst (λ n. Compacts test old c.if-is_held_in.entries n (i + 1)) (sym w.kept-is)
-          (subst (λ (l : List TaskRef). Compacts test old l kept (i + 1)) (sym w.entries-is) (compacts_left test old now kept i x low read (sym c.is_held_in.ensures ∙ w.if-is_held_in.false) c.loop-i.invariant))
-    ]
 
 pub returns-clause-kept : goal.returns-clause-kept
 returns-clause-kept c =
-    compacts_all (is_held (held_numbers c.args.slots.now)) c.args.entries.now c.loop-i.entries c.loop-i.kept c.loop-i.i (omega (arith, c.loop-i-test.false)) c.loop-i.invariant
+    let all = c.gather_held-from.new.entries in
+    let from = c.gather_held-from.result in
+    let n = length all - from in
+    let zero : n ≡ 0 + n = omega arith in
+    ap (take n) c.copy_within.ensures.after
+    ∙ (ap (λ (k : ℕ). take k (copy_within all from (length all) 0)) zero ∙ (take-paste all 0 (drop from all) n (omega arith) (omega (arith, length-drop from all)) ∙ (take_rest all from ∙ c.gather_held-from.ensures.held)))

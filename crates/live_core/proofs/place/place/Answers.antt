@@ -7,7 +7,8 @@ use Rattle.task_table.specs.Tables.{TableView}
 use Rattle.task_table.specs.Changes.{submitted}
 use Rattle.live_core.specs.Said.{tasks_in}
 use Rattle.live_core.specs.own.Slots.{NotesView}
-use Rattle.live_core.specs.own.Formed.{AreNoted, AreAlive}
+use Rattle.live_core.specs.Lives.{AreAlive}
+use Rattle.live_core.specs.own.Formed.{AreNoted}
 use Rattle.live_core.proofs.Alive.{alive_put}
 use Rattle.live_core.proofs.Held.{tasks_put}
 use Rattle.live_core.proofs.Noted.{noted_number, noted_slot, noted_new, noted_same}

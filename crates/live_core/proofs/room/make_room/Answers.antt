@@ -1,8 +1,13 @@
 -- The index is one of the same slots, without the stale entries where it was full.
 use Rattle.std.proofs.Common.{vec_capacity, ap}
 use Rattle.live_core.specs.own.Slots.{NotesView}
-use Rattle.live_core.proofs.Noted.{noted_index, noted_spare}
+use Rattle.live_core.proofs.Noted.{noted_count, noted_index, noted_spare}
 use Rattle.live_core.proofs.room.make_room.Goals as goal
+
+pub tidy_index-requires : goal.tidy_index-requires
+tidy_index-requires g c =
+    let old = c.make_slot.new.notes in
+    noted_count c.make_slot.new.table.slots c.args.count old.free old.entries old.slot_room (vec_capacity c.make_slot.new.ended) c.make_slot.ensures.noted
 
 pub returns-clause-noted : goal.returns-clause-noted
 returns-clause-noted g c =

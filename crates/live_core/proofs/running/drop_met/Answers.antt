@@ -1,7 +1,8 @@
 -- The slot of each task that is dropped is emptied.
 use Rattle.std.proofs.Common.{refl, sym, subst}
 use Rattle.task_table.specs.Tables.{TableView}
-use Rattle.live_core.specs.own.Formed.{AreNoted, AreAlive}
+use Rattle.live_core.specs.Lives.{AreAlive}
+use Rattle.live_core.specs.own.Formed.{AreNoted}
 use Rattle.live_core.specs.own.Shed.{Sheds}
 use Rattle.live_core.proofs.Alive.{alive_dropped}
 use Rattle.live_core.proofs.Shedding.{sheds_none, sheds_more, fewer_shed, over_dropped, noted_dropped}

@@ -1,7 +1,8 @@
 -- Some of the kept tasks that the start meets are gone already, and the slots are noted as they are.
 use Rattle.std.proofs.Common.{ℕ}
 use Rattle.task_table.specs.Firsts.{kept_in}
-use Rattle.live_core.specs.own.Formed.{AreNoted, AreAlive}
+use Rattle.live_core.specs.Lives.{AreAlive}
+use Rattle.live_core.specs.own.Formed.{AreNoted}
 use Rattle.live_core.specs.own.Shed.{Sheds}
 use Rattle.live_core.specs.own.Slots.{LeavesSlots}
 use Rattle.live_core.proofs.running.drop_met.Given as goal

@@ -2,7 +2,8 @@
 use Rattle.std.proofs.Common.{◌∙◌, inl, length, refl, sym, ap, subst}
 use Rattle.std.proofs.lemmas.List.{length-set}
 use Rattle.task_table.specs.Tables.{TableView}
-use Rattle.live_core.specs.own.Formed.{AreNoted, AreAlive}
+use Rattle.live_core.specs.Lives.{AreAlive}
+use Rattle.live_core.specs.own.Formed.{AreNoted}
 use Rattle.live_core.proofs.Alive.{alive_dropped, leaves_dropped, LeavesThere}
 use Rattle.live_core.proofs.Swept.{noted_dropped, over_dropped, fewer_kept, slots_more, goes_dropped, goes_all}
 use Rattle.task_table.specs.Ends.{sweeps_at}

@@ -6,7 +6,8 @@ use Rattle.executor_model.specs.Histories.{HistoryEntry}
 use Rattle.task_table.specs.Tables.{IsNextCall, StandsBefore}
 use Rattle.task_table.specs.Firsts.{kept_in}
 use Rattle.task_table.specs.Ends.{sweeps_at}
-use Rattle.live_core.specs.own.Formed.{AreNoted, AreAlive}
+use Rattle.live_core.specs.Lives.{AreAlive}
+use Rattle.live_core.specs.own.Formed.{AreNoted}
 use Rattle.live_core.proofs.Alive.{LeavesThere}
 use Rattle.live_core.proofs.Swept.{StaysOrGoes}
 use Rattle.live_core.proofs.sweeps.drop_kept.Given as goal

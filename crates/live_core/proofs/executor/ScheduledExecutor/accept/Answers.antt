@@ -42,6 +42,7 @@ returns-clause-stays g c =
     let new : LiveView = record { table = placed.new.table; count = e.count + 1; accepted = e.accepted + 1; earliest = e.earliest; ended = placed.new.ended.items } in
     let leaves = leaves_before e.count e.table.slots room.new.table.slots placed.new.table.slots room.ensures.leaves placed.ensures.leaves in
     subst (λ (v : LiveView). StaysQuiet v new (v.count + 1)) c.self.view_is (record {
-      stays = stays_noted m new placed.new.notes.free placed.new.notes.entries placed.new.notes.slot_room (vec_capacity placed.new.ended) (placed.ensures.workers ∙ room.ensures.roomier.workers) refl leaves (λ q. absurd (omega (arith, q))) placed.ensures.noted;
+      stays = stays_noted m new placed.new.notes.free placed.new.notes.entries placed.new.notes.slot_room (vec_capacity placed.new.ended) (placed.ensures.workers ∙ room.ensures.roomier.workers) refl leaves (λ q. absurd (omega (arith, q))) placed.ensures.noted
+          (placed.ensures.alive (room.ensures.alive c.self.invariant.alive));
       ended = placed.ensures.ended;
     })

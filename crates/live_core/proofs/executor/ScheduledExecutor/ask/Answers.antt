@@ -7,8 +7,7 @@ use Rattle.executor_model.specs.declared.types.Answer.TheVariants as answer
 use Rattle.executor_model.specs.Answers.{bare, is_terminated}
 use Rattle.task_table.specs.Firsts.{queue_in}
 use Rattle.task_table.specs.Tables.{TableView, workers_of}
-use Rattle.live_core.specs.Lives.{LiveView, StaysQuiet}
-use Rattle.live_core.specs.own.Formed.{AreAlive}
+use Rattle.live_core.specs.Lives.{LiveView, StaysQuiet, AreAlive}
 use Rattle.live_core.proofs.Called.{SubmitsNone, calls_other, live_other, noted_same_room}
 use Rattle.live_core.proofs.Leaving.{leaves_still, stays_left}
 use Rattle.live_core.proofs.executor.ScheduledExecutor.ask.Goals as goal
@@ -50,6 +49,7 @@ returns-clause-stays g c =
     let same = ap (λ (t : TableView). t.slots) c.ask.ensures.slots in
     subst (λ (v : LiveView). StaysQuiet v new v.count) c.self.view_is (record {
       stays = stays_left m new e.notes.free e.notes.entries e.notes.slot_room (vec_capacity e.ended) (ap workers_of c.ask.ensures.slots) refl (leaves_still e.table table same)
-          (noted_same_room e.table.slots table.slots e.count e.notes.free e.notes.entries e.notes.slot_room (vec_capacity e.ended) (vec_capacity e.ended) same refl c.self.invariant.noted);
+          (noted_same_room e.table.slots table.slots e.count e.notes.free e.notes.entries e.notes.slot_room (vec_capacity e.ended) (vec_capacity e.ended) same refl c.self.invariant.noted)
+          (subst (λ (t : TableView). AreAlive t.slots) (sym c.ask.ensures.slots) c.self.invariant.alive);
       ended = c.clear.ensures.items;
     })

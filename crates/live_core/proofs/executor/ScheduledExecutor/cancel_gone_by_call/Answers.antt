@@ -4,8 +4,8 @@ use Rattle.queue_code.specs.declared.call.CodeCall.TheVariants as call
 use Rattle.executor_model.specs.declared.types.Answer.TheVariants as answer
 use Rattle.executor_model.specs.Answers.{bare}
 use Rattle.task_table.specs.Tables.{TableView, workers_of}
-use Rattle.live_core.specs.Lives.{LiveView, Calls, StaysQuiet}
-use Rattle.live_core.specs.own.Formed.{AreNoted, AreAlive}
+use Rattle.live_core.specs.Lives.{LiveView, Calls, StaysQuiet, AreAlive}
+use Rattle.live_core.specs.own.Formed.{AreNoted}
 use Rattle.live_core.proofs.Cancelled.{may_cancel, by_call_gone}
 use Rattle.live_core.proofs.Living.{live_call}
 use Rattle.live_core.proofs.Called.{noted_same_room}
@@ -48,6 +48,7 @@ returns-clause-stays g c =
     let same = ap (λ (t : TableView). t.slots) c.pass.ensures.slots in
     subst (λ (v : LiveView). StaysQuiet v new v.count) c.self.view_is (record {
       stays = stays_left m new e.notes.free e.notes.entries e.notes.slot_room (vec_capacity e.ended) (ap workers_of c.pass.ensures.slots) refl (leaves_still e.table table same)
-          (noted_same_room e.table.slots table.slots e.count e.notes.free e.notes.entries e.notes.slot_room (vec_capacity e.ended) (vec_capacity e.ended) same refl c.self.invariant.noted);
+          (noted_same_room e.table.slots table.slots e.count e.notes.free e.notes.entries e.notes.slot_room (vec_capacity e.ended) (vec_capacity e.ended) same refl c.self.invariant.noted)
+          (subst (λ (t : TableView). AreAlive t.slots) (sym c.pass.ensures.slots) c.self.invariant.alive);
       ended = c.clear.ensures.items;
     })

@@ -80,6 +80,7 @@ returns-clause-stays g c =
     let leaves = leaves_more e.table.slots mid.slots spent.new.table.slots (leaves_same e.table.slots mid.slots (cancelled_numbers e.table mid c.args.slot own.0 is own.1)) spent.ensures.leaves in
     let noted = spent.ensures.noted e.count room (cancelled_noted e.table mid c.args.slot own.0 e.count e.notes.free e.notes.entries e.notes.slot_room room room is own.1 refl c.self.invariant.noted) in
     subst (λ (v : LiveView). StaysQuiet v new v.count) c.self.view_is (record {
-      stays = stays_left m new spent.new.notes.free spent.new.notes.entries spent.new.notes.slot_room room (spent.ensures.stands.workers ∙ is.workers) refl leaves noted;
+      stays = stays_left m new spent.new.notes.free spent.new.notes.entries spent.new.notes.slot_room room (spent.ensures.stands.workers ∙ is.workers) refl leaves noted
+          (spent.ensures.all (alive_cancelled e.table mid c.args.slot own.0 is c.self.invariant.alive));
       ended = c.clear.ensures.items;
     })

@@ -17,6 +17,6 @@ returns-clause-stays g c =
     let m : LiveView = record { table = e.table; count = e.count; accepted = e.accepted; earliest = e.earliest; ended = e.ended.items } in
     let new : LiveView = record m { ended = c.clear.new.self.items } in
     subst (λ (v : LiveView). StaysQuiet v new v.count) c.self.view_is (record {
-      stays = stays_left m new e.notes.free e.notes.entries e.notes.slot_room (vec_capacity e.ended) refl refl (leaves_still e.table e.table refl) c.self.invariant.noted;
+      stays = stays_left m new e.notes.free e.notes.entries e.notes.slot_room (vec_capacity e.ended) refl refl (leaves_still e.table e.table refl) c.self.invariant.noted c.self.invariant.alive;
       ended = c.clear.ensures.items;
     })

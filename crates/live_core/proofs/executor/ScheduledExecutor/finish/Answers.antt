@@ -47,7 +47,8 @@ returns-clause-stays g c =
     let r = c.end_run in
     let new : LiveView = record m { table = r.new.table; ended = c.clear.new.self.items } in
     always_on_ok r.result (subst (λ (v : LiveView). Stays v new v.count) c.self.view_is
-    (stays_left m new r.new.notes.free r.new.notes.entries r.new.notes.slot_room (vec_capacity e.ended) r.ensures.workers refl r.ensures.leaves (r.ensures.noted e.count (vec_capacity e.ended) c.self.invariant.noted)))
+    (stays_left m new r.new.notes.free r.new.notes.entries r.new.notes.slot_room (vec_capacity e.ended) r.ensures.workers refl r.ensures.leaves (r.ensures.noted e.count (vec_capacity e.ended) c.self.invariant.noted)
+    (r.ensures.alive c.self.invariant.alive)))
 
 pub returns-clause-given : goal.returns-clause-given
 returns-clause-given g c =

@@ -8,8 +8,7 @@ use Rattle.executor_model.specs.declared.types.Refusal.TheVariants as refusal
 use Rattle.executor_model.specs.Answers.{bare}
 use Rattle.task_table.specs.Seats.{IsNew}
 use Rattle.task_table.specs.Tables.{TableView, workers_of}
-use Rattle.live_core.specs.Lives.{LiveView, Calls, StaysQuiet}
-use Rattle.live_core.specs.own.Formed.{AreAlive}
+use Rattle.live_core.specs.Lives.{LiveView, Calls, StaysQuiet, AreAlive}
 use Rattle.live_core.proofs.Living.{live_call}
 use Rattle.live_core.proofs.Noted.{noted_number, noted_later}
 use Rattle.live_core.proofs.Steps.{may_submit, rejects_there}
@@ -51,7 +50,8 @@ returns-clause-stays g c =
     let same = ap (λ (x : TableView). x.slots) c.refuse.ensures.slots in
     subst (λ (v : LiveView). StaysQuiet v new (v.count + 1)) c.self.view_is (record {
       stays = stays_left m new e.notes.free e.notes.entries e.notes.slot_room (vec_capacity e.ended) (ap workers_of c.refuse.ensures.slots) refl (leaves_still e.table table same)
-          (noted_later e.table.slots table.slots e.count e.notes.free e.notes.entries e.notes.slot_room (vec_capacity e.ended) (vec_capacity e.ended) same refl c.self.invariant.noted);
+          (noted_later e.table.slots table.slots e.count e.notes.free e.notes.entries e.notes.slot_room (vec_capacity e.ended) (vec_capacity e.ended) same refl c.self.invariant.noted)
+          (subst (λ (x : TableView). AreAlive x.slots) (sym c.refuse.ensures.slots) c.self.invariant.alive);
       ended = c.clear.ensures.items;
     })
 

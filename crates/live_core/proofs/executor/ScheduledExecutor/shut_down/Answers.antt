@@ -42,4 +42,5 @@ returns-clause-stays g c =
     let s = c.shut_down in
     let new : LiveView = record m { table = s.new.table; ended = s.new.ended.items } in
     subst (λ (v : LiveView). Stays v new v.count) c.self.view_is
-    (stays_left m new s.new.notes.free s.new.notes.entries s.new.notes.slot_room (vec_capacity s.new.ended) s.ensures.workers refl s.ensures.leaves (s.ensures.noted e.count c.self.invariant.noted))
+    (stays_left m new s.new.notes.free s.new.notes.entries s.new.notes.slot_room (vec_capacity s.new.ended) s.ensures.workers refl s.ensures.leaves (s.ensures.noted e.count c.self.invariant.noted)
+    (s.ensures.alive c.self.invariant.alive))

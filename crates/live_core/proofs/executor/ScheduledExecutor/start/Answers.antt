@@ -55,7 +55,8 @@ returns-clause-stays g c =
     let b = c.begin_run in
     let new : LiveView = record m { table = b.new.table; ended = c.clear-2.new.self.items } in
     subst (λ (v : LiveView). Stays v new v.count) c.self.view_is
-    (stays_left m new b.new.notes.free b.new.notes.entries b.new.notes.slot_room (vec_capacity e.ended) b.ensures.workers refl b.ensures.leaves (b.ensures.noted e.count (vec_capacity e.ended) c.self.invariant.noted))
+    (stays_left m new b.new.notes.free b.new.notes.entries b.new.notes.slot_room (vec_capacity e.ended) b.ensures.workers refl b.ensures.leaves (b.ensures.noted e.count (vec_capacity e.ended) c.self.invariant.noted)
+    (b.ensures.alive c.self.invariant.alive))
 
 pub returns-clause-given : goal.returns-clause-given
 returns-clause-given g c =

@@ -14,6 +14,15 @@ use Rattle.live_core.proofs.index.NumberIndex.compact.Goals as goal
 written : (n : ℕ) (new old : List TaskRef) → n ≡ length new → take n (new ++ drop (length new) old) ≡ new
 written n new old is = subst (λ k. take k (new ++ drop (length new) old) ≡ new) (sym is) (take-append_seam new (drop (length new) old))
 
+pub keep_held-kept-requires : goal.keep_held-kept-requires
+keep_held-kept-requires g c =
+    let slots = c.args.table.now.slots in
+    let old = c.args.self.now.entries in
+    let few = few_held (held_numbers slots) old (subst Ascends (ap (λ (v : IndexView). v.entries) c.self.view_is) c.self.invariant) in
+    let same : filter (is_held (held_numbers c.seats.result.now)) c.deref_mut.result.now ≡ filter (is_held (held_numbers slots)) old =
+    ap (λ (l : List (Option Seat)). filter (is_held (held_numbers l)) c.deref_mut.result.now) c.seats.ensures ∙ (ap (filter (is_held (held_numbers slots))) c.deref_mut.ensures.value ∙ ap (λ (v : IndexView). filter (is_held (held_numbers slots)) v.entries) c.self.view_is) in
+    omega (arith, few, ap length same, held_count slots, c.requires)
+
 pub invariant_of-self : goal.invariant_of-self
 invariant_of-self g c =
     let test = is_held (held_numbers c.args.table.now.slots) in
