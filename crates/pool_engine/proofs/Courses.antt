@@ -1,8 +1,9 @@
 -- Courses: what happened in the history of a book, its clocks and its events.
 use Rattle.std.proofs.Common.{◌≡◌, ◌≢◌, ℕ, ◌+◌, ◌<◌, ◌≤◌, Bool, true, false, cond, List, [], ◌∷◌, ◌++◌, reverse, take, length, ◌⊎◌, inl, inr, refl, ap, ◌∙◌, sym, subst, append_assoc, append-nil}
-use Rattle.std.specs.Prelude.{slice_index_or}
+use Rattle.std.specs.Prelude.{IsTrue, ◌↔◌, ◌&&◌, slice_index_or}
 use Rattle.std.proofs.lemmas.Bool.{false≢true}
 use Rattle.std.proofs.lemmas.List.{append_cancel_left, reverse-reverse, take_all, take_more}
+use Rattle.std.proofs.lemmas.List.Elements.{All-more}
 use Rattle.executor_model.specs.declared.Happening.{Happening}
 use Rattle.executor_model.specs.declared.Happening.TheVariants as h
 use Rattle.sched_time.specs.declared.timing.Ending.{Ending}
@@ -10,7 +11,7 @@ use Rattle.executor_model.proofs.Flowing.{happenings_from, how_many-more}
 use Rattle.queue_code.specs.Calls.{Planned}
 use Rattle.worker_pool.specs.Books.{history_for}
 use Rattle.pool_engine.specs.PoolRuns.{clocks_of, happened_in, event_count, is_taken}
-use Rattle.pool_engine.specs.own.Ended.{ShowsSoFar}
+use Rattle.pool_engine.specs.own.Ended.{AllSoFar, ShowsSoFar}
 
 -- what happened in the history of some happenings is these
 pub course_is : (calls : List Planned) (workers : ℕ) (happened : List Happening) → happened_in (history_for calls workers happened) ≡ happened
@@ -94,3 +95,10 @@ pub event_on : (happened : List Happening) (i : ℕ) (d happening : Happening) (
 event_on happened i d happening count b low next so_far is =
     subst (λ x. count + cond x 1 0 ≡ event_count (take (i + 1) happened)) (sym (ap is_taken next) ∙ is)
     (ap (λ n. n + cond (is_taken (slice_index_or happened i d)) 1 0) so_far ∙ sym (how_many-more is_taken happened i d low))
+
+-- one happening more is so, or not
+pub all_on : (P : Happening → Type 0) (happened : List Happening) (i : ℕ) (d happening : Happening) (so_far now : Bool) → i < length happened → happening ≡ slice_index_or happened i d
+    → AllSoFar P so_far (take i happened) happened → (IsTrue now ↔ P happening) → AllSoFar P (so_far && now) (take (i + 1) happened) happened
+all_on P happened i d happening true true low next here is = All-more P happened i d low here (subst P next (is.0 refl))
+all_on P happened i d happening true false low next here is = λ all. false≢true (is.1 (subst P (sym next) (all i d low)))
+all_on P happened i d happening false now low next not is = not

@@ -8,7 +8,6 @@ use Rattle.executor_model.specs.declared.Happening.{Happening}
 use Rattle.executor_model.specs.declared.Happening.TheVariants as h
 use Rattle.executor_model.specs.Histories.{happenings}
 use Rattle.executor_model.proofs.Flowing.{happenings_from}
-use Rattle.trace_check.specs.Laws.{FitsHappening}
 use Rattle.trace_check.proofs.Fitting.{histories_conform}
 use Rattle.sched_engine.proofs.Inputs.{length-happenings}
 use Rattle.worker_pool.specs.Books.{history_for}
@@ -18,15 +17,15 @@ use Rattle.pool_engine.specs.Laws.{PoolRunsConform}
 turned : (calls : List Planned) (workers : ℕ) (happened : List Happening) → happenings (history_for calls workers happened) ≡ reverse happened
 turned calls workers happened = happenings_from calls workers [] (reverse happened) ∙ append-nil (reverse happened)
 
-reverse_fits : (happened : List Happening) → All FitsHappening happened → All FitsHappening (reverse happened)
-reverse_fits happened fit =
-    All-from_get_or FitsHappening (reverse happened) h.Call (λ i low.
+all_turned : (P : Happening → Type 0) (happened : List Happening) → All P happened → All P (reverse happened)
+all_turned P happened fit =
+    All-from_get_or P (reverse happened) h.Call (λ i low.
     let here : i < length happened = omega (arith, low, length-reverse happened) in
-    subst FitsHappening (sym (get_or-reverse happened i h.Call here)) (All-get_or FitsHappening happened (length happened - 1 - i) h.Call (omega (arith, here)) fit))
+    subst P (sym (get_or-reverse happened i h.Call here)) (All-get_or P happened (length happened - 1 - i) h.Call (omega (arith, here)) fit))
 
--- what the happenings of a history hand in fits, where what happened does
-pub history_fits : (calls : List Planned) (workers : ℕ) (happened : List Happening) → All FitsHappening happened → All FitsHappening (happenings (history_for calls workers happened))
-history_fits calls workers happened fit = subst (All FitsHappening) (sym (turned calls workers happened)) (reverse_fits happened fit)
+-- all happenings of a history are so, where all that happened is
+pub history_all : (P : Happening → Type 0) (calls : List Planned) (workers : ℕ) (happened : List Happening) → All P happened → All P (happenings (history_for calls workers happened))
+history_all P calls workers happened all = subst (All P) (sym (turned calls workers happened)) (all_turned P happened all)
 
 -- a history is as long as what happened
 pub history_short : (calls : List Planned) (workers : ℕ) (happened : List Happening) → length happened ≤ 2 ^ 64 → length (history_for calls workers happened) ≤ 2 ^ 64

@@ -11,4 +11,4 @@ use Rattle.pool_engine.specs.PoolRuns.{RunsToLimit, RunsToRest}
 -- what a run by a pool wrote conforms, where it ended well or with as many events as the limit allows
 abbrev pub PoolRunsConform : Type 0
 PoolRunsConform = (calls : List Planned) (workers limit : ℕ) (moments : List ℕ) (past : List HistoryEntry) → IsPlanned calls → IsWorkerCount workers
-    → RunsToRest calls workers limit moments past ⊎ RunsToLimit calls workers limit past → Conforms calls workers (text_of calls past)
+    → RunsToRest calls workers limit moments past ⊎ RunsToLimit calls workers limit moments past → Conforms calls workers (text_of calls past)

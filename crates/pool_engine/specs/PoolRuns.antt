@@ -1,6 +1,6 @@
 -- What a run by a pool reads and writes.
 -- All of it is this project's rule.
-use Rattle.std.specs.Prelude.{◌≡◌, ℕ, ◌^◌, ◌≤◌, All, Bool, true, false, List, [], ◌∷◌, ◌⊎◌, Option, Result, Ok, Err, length, reverse, take}
+use Rattle.std.specs.Prelude.{◌≡◌, ℕ, ◌^◌, ◌<◌, ◌≤◌, All, Bool, true, false, List, [], ◌∷◌, ◌++◌, ◌⊎◌, Option, None, Result, Ok, Err, length, reverse, take}
 use Rattle.std.specs.Io.KnownBytes.{Appends, Keeps}
 use Rattle.executor_model.specs.declared.Happening.{Happening}
 use Rattle.executor_model.specs.declared.Happening.TheVariants as h
@@ -48,22 +48,41 @@ event_count happened = how_many is_taken happened
 abbrev pub IsAtRest : List Planned → ℕ → List HistoryEntry → Type 0
 IsAtRest calls workers past = IsRipe calls (view_of_state calls (after calls workers (happenings past))) → ⊥
 
--- a history is one that the calls allow, with the clocks of the input, within the limit, and nothing is due after it. What it
--- hands in fits, and it is no longer than 2^64: so its text conforms, as a law says
+-- no run is under way once a history has happened: no worker has a task
+abbrev pub IsIdle : List Planned → ℕ → List HistoryEntry → Type 0
+IsIdle calls workers past = (worker : ℕ) → (after calls workers (happenings past)).workers worker ≡ None
+
+-- a start or a finish is by one of so many workers
+abbrev pub IsBy : ℕ → Happening → Type 0
+IsBy workers (h.Start worker) = worker < workers
+IsBy workers (h.Finish worker ending) = worker < workers
+IsBy workers _ = Unit {0}
+
+-- some moments are the first of these
+abbrev pub AreFirstOf : List ℕ → List ℕ → Type 0
+AreFirstOf front moments = (later : List ℕ) × (front ++ later ≡ moments)
+
+-- a history is one that the calls allow, with the clocks of the input, and starts and finishes by the workers, within the limit;
+-- after it nothing is due, and no run is under way. What it hands in fits, and it is no longer than 2^64: so its text conforms, as
+-- a law says
 pub record RunsToRest (calls : List Planned) (workers limit : ℕ) (moments : List ℕ) (past : List HistoryEntry) : Type 0 where
   pub means : IsHistoryOf calls workers past
   pub fit : All FitsHappening (happenings past)
   pub short : length past ≤ 2 ^ 64
   pub clocks : clocks_of (happened_in past) ≡ moments
+  pub by : All (IsBy workers) (happenings past)
   pub rests : IsAtRest calls workers past
+  pub idle : IsIdle calls workers past
   pub within : event_count (happened_in past) ≤ limit
 
--- a history is one that the calls allow, with as many events as the limit allows; what it hands in fits, and it is no longer
--- than 2^64
-pub record RunsToLimit (calls : List Planned) (workers limit : ℕ) (past : List HistoryEntry) : Type 0 where
+-- a history is one that the calls allow, with clocks that are the first of the input, and starts and finishes by the workers, and
+-- with as many events as the limit allows; what it hands in fits, and it is no longer than 2^64
+pub record RunsToLimit (calls : List Planned) (workers limit : ℕ) (moments : List ℕ) (past : List HistoryEntry) : Type 0 where
   pub means : IsHistoryOf calls workers past
   pub fit : All FitsHappening (happenings past)
   pub short : length past ≤ 2 ^ 64
+  pub clocks : AreFirstOf (clocks_of (happened_in past)) moments
+  pub by : All (IsBy workers) (happenings past)
   pub full : event_count (happened_in past) ≡ limit
 
 -- ---- a run
@@ -74,9 +93,9 @@ PoolWrote (Ok report) calls workers limit moments old new =
     (past : List HistoryEntry) × RunsToRest calls workers limit moments past
     × (report.events ≡ event_count (happened_in past)) × (report.lines ≡ length (lines_of calls past)) × Appends old new (text_of calls past)
 PoolWrote (Err p.Full) calls workers limit moments old new =
-    (past : List HistoryEntry) × RunsToLimit calls workers limit past × Appends old new (text_of calls past)
+    (past : List HistoryEntry) × RunsToLimit calls workers limit moments past × Appends old new (text_of calls past)
 PoolWrote (Err p.Write) calls workers limit moments old new =
-    (past : List HistoryEntry) × (RunsToRest calls workers limit moments past ⊎ RunsToLimit calls workers limit past)
+    (past : List HistoryEntry) × (RunsToRest calls workers limit moments past ⊎ RunsToLimit calls workers limit moments past)
     × (n : ℕ) × Appends old new (take n (text_of calls past))
 PoolWrote (Err p.Lost) calls workers limit moments old new = Keeps old new
 PoolWrote (Err p.Memory) calls workers limit moments old new = Keeps old new

@@ -3,7 +3,7 @@ ghost use Rattle.std.specs.Prelude.{◌≡◌, ◌≢◌, ℕ, ◌^◌, ◌≤�
 ghost use Rattle.trace_text.specs.Spelling.{lines_text};
 ghost use Rattle.trace_check.specs.Laws.{FitsHappening};
 ghost use Rattle.byte_ends.specs.Ends.{CountsTries};
-ghost use Rattle.pool_engine.specs.PoolRuns.{clocks_of, event_count};
+ghost use Rattle.pool_engine.specs.PoolRuns.{AreFirstOf, IsBy, clocks_of, event_count};
 ghost use Rattle.pool_engine.specs.own.Ended.{TextWritten};
 
 use byte_ends::{Sink, write_text};
@@ -17,14 +17,20 @@ use std::alloc::Allocator;
 pub struct Told {
     /// How many of them are events.
     pub events: usize,
-    /// Whether the clocks among them show just the moments of the input, in order.
-    pub shows_moments: bool,
+    /// Whether the clocks among them show the first moments of the input, in order.
+    pub shows_first: bool,
+    /// Whether they show all of them.
+    pub shows_all: bool,
+    /// Whether each start and each finish is by one of the workers.
+    pub by_workers: bool,
 }
 
-/// What some happenings tell, the oldest first, where the input has these moments.
-pub fn look_back(happened: &[KeptHappening], moments: &[u64]) -> Told
+/// What some happenings tell, the oldest first, where the input has these moments, and there are so many workers.
+pub fn look_back(happened: &[KeptHappening], moments: &[u64], workers: u8) -> Told
     ensures events { result.events ≡ event_count happened.now }
-    ensures shows { IsTrue result.shows_moments ↔ (clocks_of happened.now ≡ moments.now) }
+    ensures first { IsTrue result.shows_first ↔ AreFirstOf (clocks_of happened.now) moments.now }
+    ensures shows { IsTrue result.shows_all ↔ (clocks_of happened.now ≡ moments.now) }
+    ensures by { IsTrue result.by_workers ↔ All (IsBy workers) happened.now }
     ensures fit { All FitsHappening happened.now }
     ensures short { length happened.now ≤ 2 ^ 64 }
 {
@@ -32,9 +38,11 @@ pub fn look_back(happened: &[KeptHappening], moments: &[u64]) -> Told
     let mut events = 0;
     let mut left = moments;
     let mut shows = true;
+    let mut by_workers = true;
     for kept in happened {
         let happening = kept.happening();
         prove_fits(happening);
+        by_workers &= is_by(happening, workers);
         match happening {
             Happening::Clock(moment) => {
                 events += 1;
@@ -49,7 +57,9 @@ pub fn look_back(happened: &[KeptHappening], moments: &[u64]) -> Told
     }
     Told {
         events,
-        shows_moments: shows && left.is_empty(),
+        shows_first: shows,
+        shows_all: shows && left.is_empty(),
+        by_workers,
     }
 }
 
@@ -63,6 +73,16 @@ fn left_behind(moment: u64, moments: &[u64]) -> Option<&[u64]>
         return None;
     }
     Some(rest)
+}
+
+/// Whether a start or a finish is by one of so many workers; nothing else has a worker.
+fn is_by(happening: Happening, workers: u8) -> bool
+    ensures { IsTrue result ↔ IsBy workers happening }
+{
+    match happening {
+        Happening::Start(worker) | Happening::Finish(worker, _) => worker < workers,
+        Happening::Call | Happening::Clock(_) | Happening::Cancel(_) => true,
+    }
 }
 
 /// What a happening hands in is in the range of its type.

@@ -6,7 +6,7 @@ ghost use Rattle.task_word.specs.Views.{new_core};
 ghost use Rattle.executor_model.specs.Counts.{IsWorkerCount};
 ghost use Rattle.sched_engine.specs.Running.{CountsReader, CountsWriter};
 ghost use Rattle.pool_engine.specs.PoolRuns.{LeavesWriter, PoolRan, PoolWrote, event_count};
-ghost use Rattle.pool_engine.specs.own.Ended.{CountsLast, CountsStop, IsRested, StopLeaves, stop_of_last};
+ghost use Rattle.pool_engine.specs.own.Ended.{CountsLast, CountsStop, IsFilled, IsRested, StopLeaves, stop_of_last};
 
 use crate::clocks::read_clocks;
 use crate::ended::{look_back, write_lines};
@@ -169,8 +169,11 @@ fn write_rested<N: Named, A: Allocator, W: Sink>(
         (IsRested book.now asked.now.moments.now
         × (event_count book.now.happened ≤ asked.now.limit)) }
 {
-    let told = look_back(book.happenings(), asked.moments);
-    if !told.shows_moments || book.ripe() || told.events > asked.limit as usize {
+    let told = look_back(book.happenings(), asked.moments, book.workers());
+    if !told.shows_all || !told.by_workers || told.events > asked.limit as usize {
+        return Err(LastError::Lost);
+    }
+    if book.ripe() || !book.is_idle() {
         return Err(LastError::Lost);
     }
     let lines = book.lines();
@@ -183,7 +186,7 @@ fn write_rested<N: Named, A: Allocator, W: Sink>(
     })
 }
 
-/// Writes the trace of a book whose pool ended at its limit, if it has as many events.
+/// Writes the trace of a book whose pool ended at its limit, if it has as many events, and is what the pool was to come to so far.
 fn write_full<N: Named, A: Allocator, W: Sink>(
     book: &Book<N, A>,
     asked: &Asked<'_>,
@@ -202,10 +205,10 @@ fn write_full<N: Named, A: Allocator, W: Sink>(
         → (W.failed writer.new ≡ W.failed writer.old)
         × (W.fruitless writer.new ≡ W.fruitless writer.old) }
     ensures lost { IsErrOf result LastError.Lost
-        ↔ ¬ (event_count book.now.happened ≡ asked.now.limit) }
+        ↔ ¬ IsFilled book.now asked.now.limit asked.now.moments.now }
 {
-    let told = look_back(book.happenings(), asked.moments);
-    if told.events != asked.limit as usize {
+    let told = look_back(book.happenings(), asked.moments, book.workers());
+    if !told.shows_first || !told.by_workers || told.events != asked.limit as usize {
         return Err(LastError::Lost);
     }
     if !write_lines(draft, book.lines(), writer) {

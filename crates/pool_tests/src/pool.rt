@@ -122,13 +122,15 @@ enum Said {
     Advanced(Result<Applied, PoolError>),
 }
 
-/// What calls are answered, the verdicts on the tasks as a handle and as handle and book read them, and the lines.
+/// What calls are answered, the verdicts on the tasks as a handle and as handle and book read them, and what the book tells.
 #[derive(Drop)]
 struct Played {
     said: Vec<Said>,
     results: Vec<Option<Verdict>>,
     agreed: Vec<Option<Verdict>>,
     lines: Vec<Line>,
+    /// Whether some cell held a verdict before the book's.
+    forestalled: bool,
 }
 
 /// Checks some lines by the plan alone.
@@ -244,6 +246,7 @@ fn told_by<N: Named>(
         results,
         agreed,
         lines,
+        forestalled: book.is_forestalled(),
     })
 }
 

@@ -1,6 +1,6 @@
 -- What an event adds to a book.
-use Rattle.std.proofs.Common.{◌≡◌, ◌⊎◌, ℕ, ◌+◌, ◌<◌, false, inl, inr, List, [], ◌∷◌, ◌++◌, Option, Some, None, refl, sym, ap, ◌∙◌, subst}
-use Rattle.std.specs.Prelude.{IsSome, slice_index, slice_index_or, slice_get}
+use Rattle.std.proofs.Common.{◌≡◌, ◌⊎◌, ℕ, ◌+◌, ◌<◌, Bool, ◌||◌, false, inl, inr, List, [], ◌∷◌, ◌++◌, Option, Some, None, refl, sym, ap, ◌∙◌, subst}
+use Rattle.std.specs.Prelude.{slice_index, slice_index_or, slice_get}
 use Rattle.std.specs.List.{All}
 use Rattle.atomic_table.specs.Seated.{TableId}
 use Rattle.once_cell.specs.declared.race.note.Note.{Note}
@@ -17,7 +17,7 @@ use Rattle.executor_model.specs.Flows.{happening_of, answer_line, lines_of}
 use Rattle.executor_core.specs.CoreView.{CoreView, workers_of, Counts}
 use Rattle.worker_pool.specs.own.Results.{TookVerdict}
 use Rattle.worker_pool.specs.Books.{BookView, IsBook, KnowsVerdict, EndedSo, ending_in, past_of, was_outside}
-use Rattle.worker_pool.specs.Applies.{Applies}
+use Rattle.worker_pool.specs.Applies.{Applies, KnowsEnding, lacks_note}
 use Rattle.worker_pool.specs.own.Steps.{IsKept, Agrees, past_in, part_in, Completes, SamePlan, OnlyOwnGrows}
 use Rattle.worker_pool.proofs.Entries.{takes_noted, lines_more, last_line}
 use Rattle.worker_pool.proofs.Booking.{book_kept, kept_book, outside_stays, knows_still, ended_ran, ends_once}
@@ -94,30 +94,39 @@ verdict_fits cells old core seat happened lines event verdict book t said =
           ends_once calls workers rest e verdict.task verdict.ending still.ending book.orderly.1 means said still.ended,
     )
 
--- what became of the notes: each stays as it is, or there was none, and the answer tells of its task; and a new one is that of the
--- verdict that the answer tells
+none_there : (o : Option (Note Verdict)) → ((note : Note Verdict) → o ≡ Some note → ⊥) → o ≡ None
+none_there None never = refl
+none_there (Some note) never = absurd (never note refl)
+
+pub none_before : (cells : List ℕ) (old : BookView) (core : CoreView) (seat : CoreSeatView) (happened : List Happening) (lines : List Line) (event : Event) (verdict : Verdict) → IsBook cells old → (t : Took old core seat happened lines event) →
+    ending_in verdict.task t.took.last.answer ≡ Some verdict.ending → slice_index_or old.notes verdict.task None ≡ None
+none_before cells old core seat happened lines event verdict book t said =
+    none_there (slice_index_or old.notes verdict.task None) (verdict_fits cells old core seat happened lines event verdict book t said).1
+
+-- what became of the notes: each stays as it is, or there was none, and it knows how the answer says that its task ended; and a new
+-- one is that of the verdict that the answer tells
 pub record NotesGo (cells : List ℕ) (old now : List (Option (Note Verdict))) (past : List HistoryEntry) (answer : Answer) : Type 0 where
-  pub each : (k : ℕ) → (slice_index_or now k None ≡ slice_index_or old k None) ⊎ ((slice_index_or old k None ≡ None) × IsSome (ending_in k answer))
+  pub each : (k : ℕ) → (slice_index_or now k None ≡ slice_index_or old k None) ⊎ ((slice_index_or old k None ≡ None) × KnowsEnding now k (ending_in k answer))
   pub come : (k : ℕ) (note : Note Verdict) → slice_index_or now k None ≡ Some note → (slice_index_or old k None ≡ Some note) ⊎ KnowsVerdict cells past k note
 
 -- what the book is then
-abbrev pub book_of : TableId → CoreView → CoreSeatView → List Happening → List Line → List (Option (Note Verdict)) → BookView
-book_of table core seat happened lines notes = record { core = core; seat = seat; table = table; happened = happened; lines = lines; notes = notes }
+abbrev pub book_of : TableId → CoreView → CoreSeatView → List Happening → List Line → List (Option (Note Verdict)) → Bool → BookView
+book_of table core seat happened lines notes forestalled = record { core = core; seat = seat; table = table; happened = happened; lines = lines; notes = notes; forestalled = forestalled }
 
-pub took_book : (cells : List ℕ) (old : BookView) (table : TableId) (core : CoreView) (seat : CoreSeatView) (happened : List Happening) (lines : List Line) (notes : List (Option (Note Verdict))) (event : Event) → IsBook cells old → (t : Took old core seat happened lines event) →
-    NotesGo cells old.notes notes (past_in core happened) t.took.last.answer → IsBook cells (book_of table core seat happened lines notes)
-took_book cells old table core seat happened lines notes event book t go =
+pub took_book : (cells : List ℕ) (old : BookView) (table : TableId) (core : CoreView) (seat : CoreSeatView) (happened : List Happening) (lines : List Line) (notes : List (Option (Note Verdict))) (forestalled : Bool) (event : Event) → IsBook cells old → (t : Took old core seat happened lines event) →
+    NotesGo cells old.notes notes (past_in core happened) t.took.last.answer → IsBook cells (book_of table core seat happened lines notes forestalled)
+took_book cells old table core seat happened lines notes forestalled event book t go =
     let added = t.took.last ∷ t.took.between in
-    kept_book cells (book_of table core seat happened lines notes) t.kept
+    kept_book cells (book_of table core seat happened lines notes forestalled) t.kept
     (λ k is. ap (was_outside k) t.took.past ∙ outside_stays k added (past_of old) (book.joined k (ap (stands_in k) (sym t.handles.joined) ∙ is)))
     (λ k note is. elim (go.come k note is) [
       | inl was ↦ subst (λ p. KnowsVerdict cells p k note) (sym t.took.past) (knows_still cells added (past_of old) k note (book.notes k note was))
       | inr knows ↦ knows
     ])
 
-pub took_applies : (cells : List ℕ) (old : BookView) (table : TableId) (core : CoreView) (seat : CoreSeatView) (happened : List Happening) (lines : List Line) (notes : List (Option (Note Verdict))) (event : Event) → IsBook cells old → (t : Took old core seat happened lines event) →
-    NotesGo cells old.notes notes (past_in core happened) t.took.last.answer → (did : Applies old (book_of table core seat happened lines notes) event) × (did.last ≡ t.took.last)
-took_applies cells old table core seat happened lines notes event book t go =
+pub took_applies : (cells : List ℕ) (old : BookView) (table : TableId) (core : CoreView) (seat : CoreSeatView) (happened : List Happening) (lines : List Line) (notes : List (Option (Note Verdict))) (forestalled : Bool) (event : Event) → IsBook cells old → (t : Took old core seat happened lines event) →
+    NotesGo cells old.notes notes (past_in core happened) t.took.last.answer → forestalled ≡ (old.forestalled || lacks_note notes t.took.last.answer) → (did : Applies old (book_of table core seat happened lines notes forestalled) event) × (did.last ≡ t.took.last)
+took_applies cells old table core seat happened lines notes forestalled event book t go put =
     let calls = old.core.calls in
     let workers = workers_of old.core in
     let agrees : Agrees calls workers (past_in core happened) seat = subst (λ c. Agrees c workers (past_in core happened) seat) t.calls (subst (λ w. Agrees core.calls w (past_in core happened) seat) t.workers t.kept.agrees) in (
@@ -135,6 +144,7 @@ took_applies cells old table core seat happened lines notes event book t go =
         out = t.handles.out;
         taken = t.taken;
         notes = go.each;
+        put = put;
       },
       refl,
     )
@@ -155,8 +165,8 @@ settled cells old core seat happened lines event answer notes book t is each = r
   each = λ k. elim (each k) [
     | inl same ↦ inl same
     | inr new ↦ inr (
-      none_there (slice_index_or old.notes k None) (verdict_fits cells old core seat happened lines event (record { task = k; ending = new.2.ending }) book t (told k new.0 new.2)).1,
-      subst (λ o. IsSome o) (sym (told k new.0 new.2)) refl,
+      none_before cells old core seat happened lines event (record { task = k; ending = new.2.ending }) book t (told k new.0 new.2),
+      subst (λ o. KnowsEnding notes k o) (sym (told k new.0 new.2)) (new.0, new.1, new.2.known),
     )
   ];
   come = λ k note there. elim (each k) [
@@ -167,10 +177,6 @@ settled cells old core seat happened lines event answer notes book t is each = r
   where
     one : (a b : Note Verdict) → Some a ≡ Some b → a ≡ b
     one a b q = ap (λ (o : Option (Note Verdict)). Rattle.std.specs.Option.option_map_or (λ n. n) o a) q
-
-    none_there : (o : Option (Note Verdict)) → ((note : Note Verdict) → o ≡ Some note → ⊥) → o ≡ None
-    none_there None never = refl
-    none_there (Some note) never = absurd (never note refl)
 
     two : (a b : Answer) → Some a ≡ Some b → a ≡ b
     two a b q = ap (λ (o : Option Answer). Rattle.std.specs.Option.option_map_or (λ n. n) o a) q

@@ -155,9 +155,9 @@ vacant_at zero k = refl
 vacant_at (suc n) zero = refl
 vacant_at (suc n) (suc k) = vacant_at n k
 
-pub opening_book : (cells : List ℕ) (table : TableId) (calls : List Planned) (workers limit n tasks : ℕ) (m : CoreView) (v : CoreSeatView) (notes : List (Option (Note Verdict))) → IsPlanned calls → IsOpening m calls workers limit → v ≡ new_core n → n ≡ task_count calls →
-    notes ≡ replicate tasks None → IsBook cells (record { core = m; seat = v; table = table; happened = []; lines = []; notes = notes })
-opening_book cells table calls workers limit n tasks m v notes orderly opens seat count none = record {
+pub opening_book : (cells : List ℕ) (table : TableId) (calls : List Planned) (workers limit n tasks : ℕ) (m : CoreView) (v : CoreSeatView) (notes : List (Option (Note Verdict))) (forestalled : Bool) → IsPlanned calls → IsOpening m calls workers limit → v ≡ new_core n → n ≡ task_count calls →
+    notes ≡ replicate tasks None → IsBook cells (record { core = m; seat = v; table = table; happened = []; lines = []; notes = notes; forestalled = forestalled })
+opening_book cells table calls workers limit n tasks m v notes forestalled orderly opens seat count none = record {
   orderly = subst IsPlanned (sym opens.calls) orderly;
   means = tt;
   stands = opens.stands;

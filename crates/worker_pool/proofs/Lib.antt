@@ -8,6 +8,7 @@ pub mod Sweeps
 pub mod Wins
 pub mod Entries
 pub mod Settling
+pub mod Idling
 pub mod Booking
 pub mod Applying
 pub mod Verdicts

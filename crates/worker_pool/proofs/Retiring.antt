@@ -191,20 +191,20 @@ looked_noted cells old v core seat happened lines kept new_kept only own =
     noting_noted calls workers (past_of old) now v seat means kept.agrees agrees own only.noting
 
 -- the notes go on knowing
-pub know_still : (cells : List ℕ) (old : BookView) (table : TableId) (core : CoreView) (seat : CoreSeatView) (happened : List Happening) (lines : List Line) → IsBook cells old → OnlyNoted old.core core old.happened happened → KnowAll cells (book_of table core seat happened lines old.notes)
+pub know_still : (cells : List ℕ) (old : BookView) (table : TableId) (core : CoreView) (seat : CoreSeatView) (happened : List Happening) (lines : List Line) → IsBook cells old → OnlyNoted old.core core old.happened happened → KnowAll cells (book_of table core seat happened lines old.notes old.forestalled)
 know_still cells old table core seat happened lines book only = λ k note is.
     subst (λ p. KnowsVerdict cells p k note) (sym only.noting.past) (knows_still cells only.noting.noted (past_of old) k note (book.notes k note is))
 
 -- cancels were noted, and no handle came back
 pub looked_book : (cells : List ℕ) (old : BookView) (table : TableId) (core : CoreView) (seat : CoreSeatView) (happened : List Happening) (lines : List Line) → IsBook cells old → IsKept core seat happened lines → OnlyNoted old.core core old.happened happened → OnlyOwnGrows old.seat seat →
-    IsBook cells (book_of table core seat happened lines old.notes)
+    IsBook cells (book_of table core seat happened lines old.notes old.forestalled)
 looked_book cells old table core seat happened lines book kept only handles =
-    kept_book cells (book_of table core seat happened lines old.notes) kept
+    kept_book cells (book_of table core seat happened lines old.notes old.forestalled) kept
     (λ k is. ap (was_outside k) only.noting.past ∙ outside_stays k only.noting.noted (past_of old) (book.joined k (ap (stands_in k) (sym handles.joined) ∙ is)))
     (know_still cells old table core seat happened lines book only)
 
 pub looked_notes : (cells : List ℕ) (old : BookView) (table : TableId) (core : CoreView) (seat : CoreSeatView) (happened : List Happening) (lines : List Line) (count : ℕ) → IsBook cells old → IsKept core seat happened lines → OnlyNoted old.core core old.happened happened →
-    OnlyOwnGrows old.seat seat → seat.own ≡ old.seat.own → OnlyMarks old.seat seat → length happened ≡ length old.happened + count → (noted : List HistoryEntry) × OnlyNotes old (book_of table core seat happened lines old.notes) noted × (length noted ≡ count)
+    OnlyOwnGrows old.seat seat → seat.own ≡ old.seat.own → OnlyMarks old.seat seat → length happened ≡ length old.happened + count → (noted : List HistoryEntry) × OnlyNotes old (book_of table core seat happened lines old.notes old.forestalled) noted × (length noted ≡ count)
 looked_notes cells old table core seat happened lines count book kept only handles own marks many = (
   only.noting.noted,
   record {
@@ -218,6 +218,7 @@ looked_notes cells old table core seat happened lines count book kept only handl
     out = handles.out;
     entries = marks;
     notes = refl;
+    forestalled = refl;
   },
   omega (arith, many, length_noted old.core core old.happened happened only),
 )
@@ -229,23 +230,23 @@ book_knows cells b book k q =
 
 -- a handle came back first: what it won is among the tasks, and so is what joined before
 pub retired_joined : (cells : List ℕ) (old : BookView) (table : TableId) (handle : HandleSeatView) (core : CoreView) (seat : CoreSeatView) (happened : List Happening) (lines : List Line) → IsBook cells old → WinsBelow (task_count core.calls) handle → IsKept core seat happened lines →
-    OnlyNoted old.core core old.happened happened → OnlyOwnGrows (joined_with old.seat handle) seat → TellsUpTo seat (task_count core.calls) → AreJoined (book_of table core seat happened lines old.notes)
+    OnlyNoted old.core core old.happened happened → OnlyOwnGrows (joined_with old.seat handle) seat → TellsUpTo seat (task_count core.calls) → AreJoined (book_of table core seat happened lines old.notes old.forestalled)
 retired_joined cells old table handle core seat happened lines book wins kept only handles tells =
     let calls = ap task_count only.same.calls in
     let before : WinsBelow (task_count old.core.calls) handle = subst (λ n. WinsBelow n handle) calls wins in
-    tells_joined (book_of table core seat happened lines old.notes) kept tells
+    tells_joined (book_of table core seat happened lines old.notes old.forestalled) kept tells
     (λ k q. subst (λ n. k < n) (sym calls) (joined_below cells old handle book before k (ap (stands_in k) (sym handles.joined) ∙ q)))
 
 pub retired_book : (cells : List ℕ) (old : BookView) (table : TableId) (handle : HandleSeatView) (core : CoreView) (seat : CoreSeatView) (happened : List Happening) (lines : List Line) → IsBook cells old → WinsBelow (task_count core.calls) handle → IsKept core seat happened lines →
-    OnlyNoted old.core core old.happened happened → OnlyOwnGrows (joined_with old.seat handle) seat → TellsUpTo seat (task_count core.calls) → IsBook cells (book_of table core seat happened lines old.notes)
+    OnlyNoted old.core core old.happened happened → OnlyOwnGrows (joined_with old.seat handle) seat → TellsUpTo seat (task_count core.calls) → IsBook cells (book_of table core seat happened lines old.notes old.forestalled)
 retired_book cells old table handle core seat happened lines book wins kept only handles tells =
-    kept_book cells (book_of table core seat happened lines old.notes) kept (retired_joined cells old table handle core seat happened lines book wins kept only handles tells)
+    kept_book cells (book_of table core seat happened lines old.notes old.forestalled) kept (retired_joined cells old table handle core seat happened lines book wins kept only handles tells)
     (know_still cells old table core seat happened lines book only)
 
 pub retired : (cells : List ℕ) (old : BookView) (table : TableId) (handle : HandleSeatView) (core : CoreView) (seat : CoreSeatView) (happened : List Happening) (lines : List Line) → IsBook cells old → WinsBelow (task_count core.calls) handle → IsKept core seat happened lines →
-    OnlyNoted old.core core old.happened happened → OnlyOwnGrows (joined_with old.seat handle) seat → seat.own ≡ old.seat.own → OnlyMarks old.seat seat → TellsUpTo seat (task_count core.calls) → Retires old (book_of table core seat happened lines old.notes) handle
+    OnlyNoted old.core core old.happened happened → OnlyOwnGrows (joined_with old.seat handle) seat → seat.own ≡ old.seat.own → OnlyMarks old.seat seat → TellsUpTo seat (task_count core.calls) → Retires old (book_of table core seat happened lines old.notes old.forestalled) handle
 retired cells old table handle core seat happened lines book wins kept only handles own marks tells =
-    let all = book_of table core seat happened lines old.notes in
+    let all = book_of table core seat happened lines old.notes old.forestalled in
     let joined = retired_joined cells old table handle core seat happened lines book wins kept only handles tells in
     record {
       noted = only.noting.noted;
@@ -259,6 +260,7 @@ retired cells old table handle core seat happened lines book wins kept only hand
       out = handles.out;
       entries = marks;
       notes = refl;
+      forestalled = refl;
       won = λ k q. joined k (ap (stands_in k) handles.joined ∙ (any_append (λ j. j == k) old.seat.joined handle.won ∙ or_true (stands_in k old.seat.joined) (stands_in k handle.won) q));
       ranks = tells_ranks all old.seat handle kept tells handles.ranks;
       all = tells_all all kept tells joined;

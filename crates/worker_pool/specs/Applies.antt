@@ -1,11 +1,14 @@
 -- What the calls of a book add to it. All of it is this project's rule.
-use Rattle.std.specs.Prelude.{◌≡◌, ℕ, ◌+◌, ◌<◌, ◌≤◌, ◌||◌, ◌&&◌, not, if◌then◌else◌, Bool, true, false, IsTrue, List, [], ◌∷◌, ◌++◌, length, Option, Some, None, ◌⊎◌, ◌-◌, IsSome, slice_index, slice_index_or}
+use Rattle.std.specs.Prelude.{◌≡◌, ℕ, ◌+◌, ◌<◌, ◌≤◌, ◌||◌, ◌&&◌, not, if◌then◌else◌, Bool, true, false, IsTrue, List, [], ◌∷◌, ◌++◌, length, Option, Some, None, ◌⊎◌, ◌-◌, is_some, is_none, slice_index, slice_index_or}
 use Rattle.std.specs.List.{All, filter}
+use Rattle.once_cell.specs.declared.race.note.Note.{Note}
+use Rattle.sched_time.specs.declared.timing.Ending.{Ending}
 use Rattle.task_word.specs.Words.{is_cancelled, rank}
 use Rattle.task_word.specs.Views.{MeetsEntry, entry, greater}
 use Rattle.task_word.specs.Steps.{CoreTells}
 use Rattle.task_word.specs.declared.views.CoreSeatView.{CoreSeatView}
 use Rattle.task_word.specs.declared.views.HandleSeatView.{HandleSeatView}
+use Rattle.result_cell.specs.declared.verdict.Verdict.{Verdict}
 use Rattle.queue_code.specs.Calls.{Planned, task_count}
 use Rattle.executor_model.specs.declared.types.CancelEffect.TheVariants as f
 use Rattle.executor_model.specs.declared.types.Answer.{Answer}
@@ -22,7 +25,7 @@ use Rattle.executor_core.specs.CoreView.{workers_of}
 use Rattle.executor_laws.specs.Cancels.{is_needed}
 use Rattle.worker_pool.specs.declared.applied.Applied.{Applied}
 use Rattle.worker_pool.specs.declared.applied.Work.{Work}
-use Rattle.worker_pool.specs.Books.{BookView, ending_in, past_of, was_outside}
+use Rattle.worker_pool.specs.Books.{BookView, ending_in, ending_of_outcome, past_of, was_outside}
 
 -- ---- cancels that are noted
 
@@ -55,6 +58,7 @@ pub record OnlyNotes (old new : BookView) (noted : List HistoryEntry) : Type 0 w
   pub out : new.seat.out ≡ old.seat.out
   pub entries : OnlyMarks old.seat new.seat
   pub notes : new.notes ≡ old.notes
+  pub forestalled : new.forestalled ≡ old.forestalled
 
 -- each task that is cancelled in the seat's view is cancelled in the history; this is so of each book, by the sentences `words`
 -- and `stands` of what it keeps, and is said once more for callers
@@ -88,6 +92,16 @@ WereInWay calls workers past happening [] = Unit {0}
 WereInWay calls workers past happening (e ∷ before) = ((k : ℕ) → e.happening ≡ h.Cancel k → is_in_way calls workers (before ++ past) happening k ≡ true)
     × WereInWay calls workers past (if is_call e.happening then h.Call else happening) before
 
+-- there is a note of task k, and it knows that the task ended so
+abbrev pub KnowsEnding : List (Option (Note Verdict)) → ℕ → Option Ending → Type 0
+KnowsEnding notes k None = ⊥
+KnowsEnding notes k (Some ending) = (note : Note Verdict) × (slice_index_or notes k None ≡ Some note) × (note.known ≡ Some (record { task = k; ending = ending }))
+
+-- an answer says that a task is done, or failed, of which there is no note
+abbrev pub lacks_note : List (Option (Note Verdict)) → Answer → Bool
+lacks_note notes (a.Finish worker task run outcome) = is_some (ending_of_outcome outcome) && is_none (slice_index_or notes task None)
+lacks_note notes _ = false
+
 -- an event was taken
 pub record Applies (old new : BookView) (event : Event) : Type 0 where
   -- the entry of the event, and what came before it, the newest first: calls, and cancels that were noted
@@ -109,8 +123,12 @@ pub record Applies (old new : BookView) (event : Event) : Type 0 where
   pub out : new.seat.out ≡ old.seat.out
   -- one event more was taken
   pub taken : new.core.taken ≡ old.core.taken + 1
-  -- a note came alone where there was none, and of the task alone of which the event's answer says that it is done, or failed
-  pub notes : (k : ℕ) → (slice_index_or new.notes k None ≡ slice_index_or old.notes k None) ⊎ ((slice_index_or old.notes k None ≡ None) × IsSome (ending_in k last.answer))
+  -- a note came alone where there was none, and of the task alone of which the event's answer says that it is done, or failed; it
+  -- knows the ending that the answer tells
+  pub notes : (k : ℕ) → (slice_index_or new.notes k None ≡ slice_index_or old.notes k None) ⊎ ((slice_index_or old.notes k None ≡ None) × KnowsEnding new.notes k (ending_in k last.answer))
+  -- that task has its note then: the verdict that stands in its cell is the event's. Else its cell held one before, and the book is
+  -- forestalled, which nothing else makes it
+  pub put : new.forestalled ≡ (old.forestalled || lacks_note new.notes last.answer)
 
 -- the task and the run that an answer starts
 abbrev pub work_started : Answer → Option Work
@@ -149,6 +167,7 @@ pub record Retires (old new : BookView) (handle : HandleSeatView) : Type 0 where
   pub out : new.seat.out ≡ old.seat.out - 1
   pub entries : OnlyMarks old.seat new.seat
   pub notes : new.notes ≡ old.notes
+  pub forestalled : new.forestalled ≡ old.forestalled
   pub won : (k : ℕ) → stands_in k handle.won ≡ true → was_outside k (past_of new) ≡ true
   pub ranks : HasMetRanks new handle
   pub all : AllAreJoined new

@@ -24,7 +24,7 @@ use Rattle.executor_model.specs.Tasks.{word_of_task}
 use Rattle.executor_core.specs.CoreView.{CoreView, workers_of, Stands}
 
 -- what contracts see of a book: its core, its seat and the table of the seat, the happenings and the lines, the oldest first,
--- and of each task the note of its cell that the book keeps, if any
+-- of each task the note of its cell that the book keeps, if any, and whether some cell held a verdict before the book's
 pub record BookView : Type 0 where
   pub core : CoreView
   pub seat : CoreSeatView
@@ -32,6 +32,11 @@ pub record BookView : Type 0 where
   pub happened : List Happening
   pub lines : List Line
   pub notes : List (Option (Note Verdict))
+  pub forestalled : Bool
+
+-- no run is under way: no worker has a task
+abbrev pub IsIdle : BookView → Type 0
+IsIdle b = (w : ℕ) → slice_index_or b.core.work w None ≡ None
 
 -- the history of some happenings, the oldest first: each with the one answer that it has to have
 abbrev pub history_for : List Planned → ℕ → List Happening → List HistoryEntry

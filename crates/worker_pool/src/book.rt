@@ -1,5 +1,5 @@
 //! The book of a pool: what happened, and what it was answered.
-ghost use Rattle.std.specs.Prelude.{◌≡◌, ◌≢◌, ◌⊎◌, ◌+◌, ◌<◌, ◌≤◌, ◌↔◌, [], Some, IsTrue, IfOk, OnOk, OnErr, IfErr, IsErrOf, IsSome, IfSome, None, ℕ, List, length, slice_index_or};
+ghost use Rattle.std.specs.Prelude.{◌≡◌, ◌≢◌, ◌⊎◌, ◌+◌, ◌<◌, ◌≤◌, ◌↔◌, [], Some, false, IsTrue, IfOk, OnOk, OnErr, IfErr, IsErrOf, IsSome, IfSome, None, ℕ, List, length, slice_index_or};
 ghost use Rattle.once_cell.specs.declared.race.note.Note.{Note as CellNote};
 ghost use Rattle.result_cell.specs.Cells.{AreNotesOf, StaysKnown};
 ghost use Rattle.result_cell.specs.declared.verdict.Verdict.{Verdict as Put};
@@ -11,7 +11,7 @@ ghost use Rattle.executor_core.specs.CoreView.{IsOpening, workers_of, state_of};
 ghost use Rattle.executor_model.specs.Histories.{HistoryEntry};
 ghost use Rattle.executor_model.specs.State.{view_of_state};
 ghost use Rattle.executor_model.specs.Needs.{IsRipe};
-ghost use Rattle.worker_pool.specs.Books.{IsBook};
+ghost use Rattle.worker_pool.specs.Books.{IsBook, IsIdle};
 ghost use Rattle.worker_pool.specs.Shares.{known_to};
 ghost use Rattle.worker_pool.specs.Applies.{Applies, Tells, OnlyNotes, KnowsCancels, AllAreLookedAt, Retires, work_started};
 
@@ -35,10 +35,13 @@ use task_word::{CoreSeat, MOST_HANDLES};
 #[derive(Drop)]
 pub struct Book<N: Named, A: Allocator> {
     desk: Desk<A>,
+    workers: u8,
     /// Of each task the note with which the book set its cell.
     notes: Vec<Option<Note<Verdict>>, A>,
     /// Rooms for verdicts that will be put, as many as tasks at first.
     rooms: Vec<Box<Verdict>, A>,
+    /// Whether some cell held a verdict when the book was to put its own.
+    forestalled: bool,
     of: PhantomData<N>,
 }
 
@@ -50,10 +53,10 @@ impl<N: Named, A: Allocator> Model for Book<N, A> {
 
     ghost Value = { BookView };
 
-    ghost view = { λ b. record { core = b.desk.core; seat = b.desk.seat.view; table = b.desk.seat.table; happened = b.desk.happenings.items; lines = b.desk.lines.items; notes = b.notes.items } };
+    ghost view = { λ b. record { core = b.desk.core; seat = b.desk.seat.view; table = b.desk.seat.table; happened = b.desk.happenings.items; lines = b.desk.lines.items; notes = b.notes.items; forestalled = b.forestalled } };
 
     ghost invariant = { λ b. (b.desk.core.calls ≡ N.calls) × (workers_of b.desk.core ≡ N.workers) × (b.desk.seat.table ≡ N.table) × (length N.cells ≡ task_count N.calls) × (length b.notes.items ≡ length N.cells)
-        × IsBook N.cells (record { core = b.desk.core; seat = b.desk.seat.view; table = b.desk.seat.table; happened = b.desk.happenings.items; lines = b.desk.lines.items; notes = b.notes.items }) };
+        × IsBook N.cells (record { core = b.desk.core; seat = b.desk.seat.view; table = b.desk.seat.table; happened = b.desk.happenings.items; lines = b.desk.lines.items; notes = b.notes.items; forestalled = b.forestalled }) × (b.workers ≡ N.workers) };
 }
 
 impl<N: Named, A: HeapAllocator> Book<N, A> {
@@ -80,7 +83,7 @@ impl<N: Named, A: HeapAllocator> Book<N, A> {
         requires named { (calls_of code ≡ N.calls) × (workers ≡ N.workers) }
         ensures opening { IfOk result
             (λ b. (b.happened ≡ []) × (b.lines ≡ []) × IsOpening b.core N.calls N.workers limit
-            × (b.seat ≡ new_core (length N.cells))) }
+            × (b.seat ≡ new_core (length N.cells)) × (b.forestalled ≡ false)) }
         ensures workers { IsErrOf result PoolError.Workers ↔ ¬ IsWorkerCount workers }
         ensures limit { IsErrOf result PoolError.Limit ↔ (IsWorkerCount workers × (limit ≡ 0)) }
         ensures others { (IsErrOf result PoolError.Full → ⊥) × (IsErrOf result PoolError.Seats → ⊥)
@@ -108,8 +111,10 @@ impl<N: Named, A: HeapAllocator> Book<N, A> {
         };
         Ok(Book {
             desk,
+            workers,
             notes,
             rooms,
+            forestalled: false,
             of: PhantomData,
         })
     }
@@ -117,7 +122,8 @@ impl<N: Named, A: HeapAllocator> Book<N, A> {
     /// Takes an event: the calls of the plan that it reaches, and then the event itself, which move the words of the tasks.
     ///
     /// Where a word is met that a handle cancelled, that cancel is noted first, and the book goes on from there. When a task
-    /// is done, or has failed, the verdict on it goes into its cell.
+    /// is done, or has failed, the verdict on it goes into its cell; [`is_forestalled`](Book::is_forestalled) tells whether
+    /// one stood there before.
     ///
     /// # Errors
     ///
@@ -160,7 +166,8 @@ impl<N: Named, A: HeapAllocator> Book<N, A> {
         desk.take(&shared.words, event);
         let count = desk.lines.len() - first;
         let answer = desk.last_answer();
-        settle(&shared.cells, &mut self.notes, answer, &mut self.rooms);
+        let back = settle(&shared.cells, &mut self.notes, answer, &mut self.rooms);
+        self.forestalled |= back.is_some();
         Ok(Applied {
             first,
             count,
@@ -297,6 +304,34 @@ impl<N: Named, A: Allocator> Book<N, A> {
             × (self.now.table ≡ N.table) × (length N.cells ≡ task_count N.calls) }
     {
         &self.desk.lines
+    }
+
+    /// How many workers it is for, 1 to 64.
+    pub fn workers(&self) -> u8
+        ensures { result ≡ workers_of self.now.core }
+    {
+        self.workers
+    }
+
+    /// Whether no run is under way.
+    pub fn is_idle(&self) -> bool
+        ensures { IsTrue result ↔ IsIdle self.now }
+    {
+        for worker in 0..self.workers {
+            if self.desk.works(worker) {
+                return false;
+            }
+        }
+        true
+    }
+
+    /// Whether the cell of some task that was done, or had failed, held a verdict before the book's, which is then in none.
+    /// Only a book puts verdicts, and a cell has one book, so none is to be so; but no contract of a cell says that it is
+    /// empty.
+    pub fn is_forestalled(&self) -> bool
+        ensures { result ≡ self.now.forestalled }
+    {
+        self.forestalled
     }
 
     /// Whether the due moment of some task that waits or is kept is reached.

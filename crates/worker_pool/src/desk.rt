@@ -1,6 +1,6 @@
 //! What a book does, one happening at a time. A desk says in its clauses what stays so, and may be in the midst of a step
 //! between two calls.
-ghost use Rattle.std.specs.Prelude.{◌≡◌, ◌≢◌, ◌⊎◌, ℕ, ◌+◌, ◌<◌, ◌≤◌, ◌++◌, ◌∷◌, [], Some, true, false, IsTrue, OnOk, OnErr, List, vec_len, vec_capacity};
+ghost use Rattle.std.specs.Prelude.{◌≡◌, ◌≢◌, ◌⊎◌, ℕ, ◌+◌, ◌<◌, ◌≤◌, ◌++◌, ◌∷◌, [], Some, true, false, IsTrue, OnOk, OnErr, List, None, is_some, slice_index_or, vec_len, vec_capacity};
 ghost use Rattle.queue_code.specs.Calls.{task_count};
 ghost use Rattle.executor_core.specs.CoreView.{IsCounted, room_of, workers_of};
 ghost use Rattle.executor_model.specs.declared.types.Happening.TheVariants as h;
@@ -16,6 +16,7 @@ ghost use Rattle.worker_pool.specs.own.Steps.{IsKept, past_in, Comes, need_in, H
 use crate::moving::move_word;
 use executor_core::{Core, make_room};
 use executor_model::{Answer, Event, Happening, KeptHappening, Line, Message, Need};
+use sched_time::Ending;
 use std::alloc::{AllocError, Allocator};
 use task_word::{CoreCancel, CoreSeat, TaskWords};
 
@@ -375,6 +376,14 @@ impl<A: Allocator> Desk<A> {
 }
 
 impl<A: Allocator> Desk<A> {
+    /// Whether a run by a worker is under way: its finish would end one.
+    pub fn works(&self, worker: u8) -> bool
+        ensures { result ≡ is_some (slice_index_or self.now.core.work worker None) }
+    {
+        let finish = Happening::Finish(worker, Ending::Value(0));
+        self.core.foresee(finish).end.is_some()
+    }
+
     /// The answer of the last line, where it has one.
     #[inline(always)]
     pub fn last_answer(&self) -> Option<Answer>

@@ -53,8 +53,9 @@
 //! [`Book::note_cancels`] looks at each word and notes what it finds, and so does [`Book::retire`], once the handle's seat is
 //! back. Until a cancel is noted a handle's state says `Cancelled` while the book's lines have the task as live.
 //!
-//! When a task is done, or has failed, the verdict goes into its cell. A handle reads it with [`Handle::result`];
-//! [`Book::agrees`] gives it where both have read it.
+//! When a task is done, or has failed, the verdict goes into its cell, and the book notes it. A handle reads it with
+//! [`Handle::result`]; [`Book::agrees`] gives it where both have read it. Should the cell hold a verdict already, which only
+//! another book over it could have put, the book notes none, and [`Book::is_forestalled`] says so.
 //!
 //! # A pool
 //!
@@ -62,8 +63,8 @@
 //! due, a [`Job`] for each start, in as many threads as the book has workers.
 //!
 //! Jobs are run without the lock. The page of `src/pool.rt` says who waits for whom. What is proved of a pool is that what lies
-//! under its lock is a book, each time the lock is taken and when it ends; that its jobs are run, and that each call returns, is
-//! tested.
+//! under its lock is a book, a new one at first, each time the lock is taken and when it ends, and what each hold of the lock does
+//! to it and whom it is to wake; that its jobs are run, and that each call returns, is tested.
 //!
 //! # Order and ties
 //!

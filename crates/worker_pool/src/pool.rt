@@ -9,8 +9,9 @@
 //!
 //! What a thread does in one hold of the lock is a function over what lies there: `Shift::hold` for a worker, `Shift::lead` for
 //! who leads, and `Shift::advance`. Its clauses say what it leaves there, and its answer says what the thread does once it lets
-//! go, or sleeps: the job that it does, whether it leaves, and whom it wakes. The functions of this page only call these, wait,
-//! and wake.
+//! go, or sleeps: the job that it does, whether it leaves, and whom it wakes. The functions of this page only call these, and do
+//! what they answer. Whom to wake can't be left out: it is a value that can be neither copied nor let go, and a call of `Hall`
+//! alone takes it, which wakes. And who leads shows a moment, and lets all leave, only where it is proved that all is quiet.
 //!
 //! | Who | Waits for | Where | Is woken by |
 //! |---|---|---|---|
@@ -75,7 +76,7 @@ ghost use Rattle.executor_core.specs.CoreView.{workers_of};
 ghost use Rattle.worker_pool.specs.Books.{IsBook};
 ghost use Rattle.worker_pool.specs.Shares.{known_to};
 
-mod limit;
+mod hall;
 mod shift;
 mod sleepers;
 mod stage;
@@ -86,15 +87,15 @@ use crate::error::PoolError;
 use crate::handle::Handle;
 use crate::named::Named;
 use crate::shared::Shared;
+use hall::Hall;
 use heap_allocator::HeapAllocator;
-use limit::Limit;
 use queue_code::Code;
 use sched_time::Ending;
 use shift::Shift;
-use stage::{Came, Lead, Next};
+use stage::{Advanced, Came, Lead, Next};
 use std::alloc::Allocator;
 use std::marker::Model;
-use std::sync::{Condvar, Mutex, MutexGuard, Wait};
+use std::sync::{MutexGuard, Wait};
 use std::thread;
 use std::thread::Threads;
 use task_word::CoreSeat;
@@ -110,13 +111,7 @@ pub trait Job {
 pub struct Pool<'s, N: Named, A: Allocator> {
     shared: &'s Shared<A>,
     workers: u8,
-    /// How many events the book takes that is under the lock.
-    limit: Limit,
-    shift: Mutex<Shift<N, A>>,
-    /// Workers wait here for work.
-    work: Condvar,
-    /// Who leads a run waits here until all is quiet.
-    quiet: Condvar,
+    hall: Hall<N, A>,
 }
 
 impl<'s, N: Named, A: Allocator> Model for Pool<'s, N, A> {
@@ -125,7 +120,7 @@ impl<'s, N: Named, A: Allocator> Model for Pool<'s, N, A> {
 
     ghost Value = { PoolView };
 
-    ghost view = { λ p. record { shared = p.shared.now; limit = p.limit.events } };
+    ghost view = { λ p. record { shared = p.shared.now; limit = p.hall.events } };
 
     ghost invariant = { λ p. (p.shared.now.table ≡ N.table) × (p.shared.now.cells ≡ N.cells) × (p.workers ≡ N.workers) };
 }
@@ -156,14 +151,11 @@ impl<'s, N: Named, A: HeapAllocator> Pool<'s, N, A> {
             × (IsErrOf result PoolError.Running → ⊥) }
     {
         let book = Book::new(alloc, shared, seat, code, workers, limit)?;
-        let (shift, limit) = Limit::lock(book, limit);
+        let hall = Hall::new(book, limit);
         Ok(Pool {
             shared,
             workers,
-            limit,
-            shift,
-            work: Condvar::new(),
-            quiet: Condvar::new(),
+            hall,
         })
     }
 
@@ -194,7 +186,7 @@ impl<'s, N: Named, A: HeapAllocator> Pool<'s, N, A> {
         ensures others { IfErr result
             (λ e. (e ≡ PoolError.Running) ⊎ ((e ≡ PoolError.Full) ⊎ (e ≡ PoolError.Memory))) }
     {
-        self.shift.lock(rt).open()?;
+        self.hall.enter(rt).open()?;
         let workers = self.workers;
         thread::scope(thread::scope_env(), rt, |scope| {
             let mut made = true;
@@ -206,27 +198,23 @@ impl<'s, N: Named, A: HeapAllocator> Pool<'s, N, A> {
             }
             self.lead(rt, moments, made);
         });
-        self.shift.lock(rt).close()
+        self.hall.enter(rt).close()
     }
 
     /// Moves the clock through the moments, and waits at each until all is quiet. Then all workers leave.
     fn lead<R: Wait>(&self, rt: &R, moments: &[u64], made: bool) {
-        let mut shift = self.shift.lock(rt);
+        let mut shift = self.hall.enter(rt);
         shift.begin(made);
         for &moment in moments {
-            let Lead::Moves { wakes_one } = shift.lead(self.shared, moment) else {
-                break;
-            };
-            if wakes_one {
-                drop(shift);
-                self.work.notify_one();
-                shift = self.shift.lock(rt);
+            shift = self.hall.until_quiet(rt, shift);
+            match shift.lead(self.shared, moment) {
+                Lead::Moves(call) => shift = self.hall.pass(rt, shift, call),
+                Lead::Ends => break,
             }
-            shift = self.quiet.wait_while(rt, shift, |shift| !shift.is_quiet());
         }
-        shift.leave();
-        drop(shift);
-        self.work.notify_all();
+        shift = self.hall.until_quiet(rt, shift);
+        let call = shift.leave();
+        self.hall.leave(shift, call);
     }
 
     /// What a worker does: the jobs that it is given, until it is to leave.
@@ -242,65 +230,44 @@ impl<'s, N: Named, A: HeapAllocator> Pool<'s, N, A> {
 
     /// Gives the finish of the job that a worker has done to the book, and the worker its next one. `None`: it is to leave.
     fn next<R: Wait>(&self, rt: &R, worker: u8, came: Came) -> Option<Work> {
-        let mut shift = self.shift.lock(rt);
+        let mut shift = self.hall.enter(rt);
         match shift.hold(self.shared, worker, came) {
-            Next::Job { work, wakes_one } => {
-                self.let_go(shift, wakes_one);
+            Next::Job { work, call } => {
+                drop(shift);
+                self.hall.wake_worker(call);
                 Some(work)
             }
-            Next::Leave => {
-                self.leave(shift);
+            Next::Leave(call) => {
+                self.hall.leave(shift, call);
                 None
             }
-            Next::Sleep { wakes_leader } => self.rest(rt, worker, shift, wakes_leader),
+            Next::Sleep(rest) => {
+                shift = self.hall.sleep(rt, shift, rest);
+                self.rest(rt, worker, shift)
+            }
         }
     }
 
-    /// A worker that holds the lock and finds no job sleeps, and looks again until there is one. `None`: it is to leave.
+    /// A worker that is back from its sleep and holds the lock looks, and sleeps again, until there is a job for it. `None`: it is
+    /// to leave.
     #[inline(never)]
-    fn rest<R: Wait>(
-        &self,
-        rt: &R,
-        worker: u8,
-        held: MutexGuard<'_, Shift<N, A>>,
-        wakes_leader: bool,
-    ) -> Option<Work> {
+    fn rest<R: Wait>(&self, rt: &R, worker: u8, held: MutexGuard<'_, Shift<N, A>>) -> Option<Work> {
         let mut shift = held;
-        let mut quiet = wakes_leader;
         for _ in rt.forever() {
-            if quiet {
-                self.quiet.notify_one();
-            }
-            shift = self.work.wait(rt, shift);
             match shift.hold(self.shared, worker, Came::Woken) {
-                Next::Job { work, wakes_one } => {
-                    self.let_go(shift, wakes_one);
+                Next::Job { work, call } => {
+                    drop(shift);
+                    self.hall.wake_worker(call);
                     return Some(work);
                 }
-                Next::Leave => {
-                    self.leave(shift);
+                Next::Leave(call) => {
+                    self.hall.leave(shift, call);
                     return None;
                 }
-                Next::Sleep { wakes_leader } => quiet = wakes_leader,
+                Next::Sleep(rest) => shift = self.hall.sleep(rt, shift, rest),
             }
         }
         unreachable!()
-    }
-
-    /// A worker that has a job lets go of the lock, and wakes another one where it is to.
-    fn let_go(&self, held: MutexGuard<'_, Shift<N, A>>, wakes_one: bool) {
-        drop(held);
-        if wakes_one {
-            self.work.notify_one();
-        }
-    }
-
-    /// A worker that leaves lets go of the lock, and wakes all others and who leads.
-    #[inline(never)]
-    fn leave(&self, held: MutexGuard<'_, Shift<N, A>>) {
-        drop(held);
-        self.work.notify_all();
-        self.quiet.notify_one();
     }
 
     /// Cuts off a handle, as [`Book::admit`] does.
@@ -314,7 +281,7 @@ impl<'s, N: Named, A: HeapAllocator> Pool<'s, N, A> {
         ensures notes { IfOk result
             (λ h. AreNotesOf h.notes N.cells × ((k : ℕ) → known_to h k ≡ None)) }
     {
-        self.shift.lock(rt).admit(self.shared)
+        self.hall.enter(rt).admit(self.shared)
     }
 
     /// Lets the clock show a moment, whether a run is under way or not. A run that is under way goes on with what is due then.
@@ -327,14 +294,14 @@ impl<'s, N: Named, A: HeapAllocator> Pool<'s, N, A> {
         ensures told { IfOk result (λ told. (1 ≤ told.count) × (told.work ≡ None)) }
         ensures others { IfErr result (λ e. (e ≡ PoolError.Full) ⊎ (e ≡ PoolError.Memory)) }
     {
-        let advanced = self.shift.lock(rt).advance(self.shared, moment);
-        if advanced.wakes_one {
-            self.work.notify_one();
-        }
-        if advanced.wakes_leader {
-            self.quiet.notify_one();
-        }
-        advanced.applied
+        let Advanced {
+            applied,
+            worker,
+            leader,
+        } = self.hall.enter(rt).advance(self.shared, moment);
+        self.hall.wake_worker(worker);
+        self.hall.wake_leader(leader);
+        applied
     }
 }
 
@@ -348,11 +315,8 @@ impl<'s, N: Named, A: Allocator> Pool<'s, N, A> {
         let Pool {
             shared: _,
             workers: _,
-            limit: _,
-            shift,
-            work: _,
-            quiet: _,
+            hall,
         } = self;
-        shift.into_inner().into_book()
+        hall.into_book()
     }
 }

@@ -115,7 +115,8 @@ pub fn settle<A: Allocator>(
         × (rooms.new.items ≡ rooms.old.items) }
     ensures told { IfSome (verdict_told answer)
         (λ v. IfNone result (HasNoteOf cells.now notes.new.items v)
-        × IfSome result (λ back. back.value ≡ v)) }
+        × IfSome result
+        (λ back. (back.value ≡ v) × (notes.new.items ≡ notes.old.items))) }
     ensures taken { IsSome (verdict_told answer)
         → length rooms.new.items + 1 ≡ length rooms.old.items }
 {

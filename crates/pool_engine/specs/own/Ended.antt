@@ -1,29 +1,43 @@
 -- Beside `specs/PoolRuns`: what an ended book tells, and its text.
 -- All of it is this project's rule.
-use Rattle.std.specs.Prelude.{◌≡◌, ◌≢◌, ℕ, List, ◌++◌, Option, Result, Err, Bool, true, false, take}
+use Rattle.std.specs.Prelude.{◌≡◌, ◌≢◌, ℕ, All, List, ◌++◌, Option, Result, Err, Bool, true, false, take}
 use Rattle.std.specs.Io.KnownBytes.{Appends}
-use Rattle.executor_core.specs.CoreView.{state_of}
+use Rattle.executor_core.specs.CoreView.{state_of, workers_of}
 use Rattle.executor_model.specs.Needs.{IsRipe}
 use Rattle.executor_model.specs.State.{view_of_state}
-use Rattle.worker_pool.specs.Books.{BookView}
+use Rattle.worker_pool.specs.Books.{BookView, IsIdle}
 use Rattle.byte_ends.specs.Ends.{AllGood, LastBad}
 use Rattle.pool_engine.specs.declared.stops.LastError.{LastError}
 use Rattle.pool_engine.specs.declared.stops.LastError.TheVariants as l
 use Rattle.pool_engine.specs.declared.stops.PoolStop.{PoolStop}
 use Rattle.pool_engine.specs.declared.stops.PoolStop.TheVariants as p
 use Rattle.sched_engine.specs.declared.report.Report.{Report}
-use Rattle.pool_engine.specs.PoolRuns.{clocks_of}
+use Rattle.pool_engine.specs.PoolRuns.{AreFirstOf, IsBy, clocks_of, event_count}
 
--- the clocks of a book show these moments, and no task that waits or is kept is due in it
+-- the clocks of a book show these moments, its starts and finishes are by its workers, no task that waits or is kept is due in it,
+-- and no run is under way
 pub record IsRested (b : BookView) (moments : List ℕ) : Type 0 where
   pub clocks : clocks_of b.happened ≡ moments
+  pub by : All (IsBy (workers_of b.core)) b.happened
   pub rests : IsRipe b.core.calls (view_of_state b.core.calls (state_of b.core)) → ⊥
+  pub idle : IsIdle b
+
+-- the clocks of a book show the first of these moments, its starts and finishes are by its workers, and its events are so many
+pub record IsFilled (b : BookView) (limit : ℕ) (moments : List ℕ) : Type 0 where
+  pub clocks : AreFirstOf (clocks_of b.happened) moments
+  pub by : All (IsBy (workers_of b.core)) b.happened
+  pub full : event_count b.happened ≡ limit
 
 -- `true`: the clocks so far show the first of these moments, and the others are left; `false`: they do not show the first of them,
 -- whatever follows
 abbrev pub ShowsSoFar : Bool → List ℕ → List ℕ → List ℕ → Type 0
 ShowsSoFar true so_far left moments = so_far ++ left ≡ moments
 ShowsSoFar false so_far left moments = (later : List ℕ) → so_far ++ later ≢ moments
+
+-- `true`: all of some list so far are so; `false`: not all of the whole list are
+abbrev pub AllSoFar : {X : Type 0} → (X → Type 0) → Bool → List X → List X → Type 0
+AllSoFar P true so_far whole = All P so_far
+AllSoFar P false so_far whole = All P whole → ⊥
 
 -- `true`: the whole text was appended; `false`: a front of it
 abbrev pub TextWritten : Bool → Option (List ℕ) → Option (List ℕ) → List ℕ → Type 0

@@ -51,11 +51,12 @@ fn told_full<N: Named>(
     alloc: Global,
     book: &Book<N, Global>,
     limit: u32,
+    moments: &[u64],
 ) -> Result<(Result<Report, RunError>, Vec<u8>), Fail> {
     let asked = Asked {
         workers: 1,
         limit,
-        moments: &[],
+        moments,
     };
     let mut draft = Draft::new(alloc)?;
     let mut writer = Writing::new(Vec::new(alloc));
@@ -91,13 +92,22 @@ fn tells_of<N: Named>(
     requires shared { (shared.now.table ≡ N.table) × (shared.now.cells ≡ N.cells) }
 {
     let alloc = rt.alloc();
-    book.apply(shared, Event::Clock(0))?;
-    let (told, text) = told_rested(alloc, book, 100, &[0])?;
-    assert!(rt; told == Err(RunError::Lost) && text.is_empty());
-    book.apply(shared, Event::Start(0))?;
+    // Something is due, and then a run is under way.
+    for event in [Event::Clock(0), Event::Start(0)] {
+        book.apply(shared, event)?;
+        let (told, text) = told_rested(alloc, book, 100, &[0])?;
+        assert!(rt; told == Err(RunError::Lost) && text.is_empty());
+    }
     book.apply(shared, Event::Finish(0, Ending::Value(0)))?;
     tells_rested(rt, book)?;
-    tells_full(rt, book)
+    tells_full(rt, book)?;
+    // No worker of the pool is number 1.
+    book.apply(shared, Event::Start(1))?;
+    let (told, text) = told_rested(alloc, book, 100, &[0])?;
+    assert!(rt; told == Err(RunError::Lost) && text.is_empty());
+    let (told, text) = told_full(alloc, book, 4, &[0])?;
+    assert!(rt; told == Err(RunError::Lost) && text.is_empty());
+    Ok(())
 }
 
 /// Checks what is told of a book with the moment 0, a start and a finish, whose pool ended well.
@@ -131,12 +141,16 @@ fn tells_full<N: Named>(
     rt: &(impl AllocGlobal + Abort),
     book: &Book<N, Global>,
 ) -> Result<(), Fail> {
-    for (limit, fault, written) in [
-        (2u32, RunError::Lost, ""),
-        (3, RunError::Full, TEXT),
-        (4, RunError::Lost, ""),
-    ] {
-        let (told, text) = told_full(rt.alloc(), book, limit)?;
+    let rows: [(u32, &[u64], RunError, &str); 6] = [
+        (2, &[0], RunError::Lost, ""),
+        (3, &[0], RunError::Full, TEXT),
+        (3, &[0, 5], RunError::Full, TEXT),
+        (3, &[], RunError::Lost, ""),
+        (3, &[5, 0], RunError::Lost, ""),
+        (4, &[0], RunError::Lost, ""),
+    ];
+    for (limit, moments, fault, written) in rows {
+        let (told, text) = told_full(rt.alloc(), book, limit, moments)?;
         assert!(rt; told == Err(fault) && text.as_slice() == written.as_bytes());
     }
     Ok(())

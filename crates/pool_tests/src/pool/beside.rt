@@ -10,7 +10,7 @@ use super::{
 };
 use queue_code::Code;
 use sched_time::Ending;
-use std::alloc::{AllocGlobal, Global};
+use std::alloc::{AllocError, AllocGlobal, Global};
 use std::marker::Brand;
 use std::process::Abort;
 use std::sync::Wait;
@@ -105,6 +105,7 @@ fn beside_of<N: Named + Send + Sync, R: Threads + Wait + Sync>(
         results: Vec::new(alloc),
         agreed: Vec::new(alloc),
         lines: book.lines().to_vec(alloc)?,
+        forestalled: book.is_forestalled(),
     })
 }
 
@@ -157,14 +158,29 @@ fn a_second_run_is_told_so(rt: HostRuntime) -> Result<(), Fail> {
     check_lines(&rt, "beside a run", &beside.lines, LINES_BESIDE)
 }
 
-/// A task that is due at moment 0, and one that is due at moment 1.
-const TWO: &str = "version = 1\n[[block]]\ncall = [{ op = 'schedule', name = 'a', delay = 0 },\n\
-                   { op = 'schedule', name = 'b', delay = 1 }]\n";
+/// The plan of a task that is due at moment 0, and one that is due at this moment.
+fn two_tasks(alloc: Global, moment: u64) -> Result<String, AllocError> {
+    format!(in alloc;
+        "version = 1\n[[block]]\ncall = [{{ op = \"schedule\", name = \"a\", delay = 0 }},\n\
+         {{ op = \"schedule\", name = \"b\", delay = {moment} }}]\n"
+    )
+}
 
-/// The job of the task that is due at moment 1 lets both end.
+/// The greatest moment.
+const LAST: u64 = 4_611_686_018_427_387_904;
+
+/// The job of the task that is due at this moment, which another thread lets the clock show, lets both end.
 #[test]
 fn a_clock_from_elsewhere_wakes_a_worker(rt: HostRuntime) -> Result<(), Fail> {
-    let beside = runs_beside(&rt, TWO, 2, Some(1), "advance 1")?;
-    assert!(rt; beside.lines.iter().filter(|line| is_done(line)).count() == 2);
+    let alloc = rt.alloc();
+    for moment in [1u64, 65_536, 4_294_967_295, 4_294_967_296, LAST] {
+        let plan = two_tasks(alloc, moment)?;
+        let script = format!(in alloc;
+            "advance {moment} | Advanced(Ok(Applied {{ first: 4, count: 1, work: None }}))"
+        )?;
+        let beside = runs_beside(&rt, plan.as_str(), 2, Some(1), script.as_str())?;
+        are_told(&rt, "from elsewhere", &beside.said, script.as_str())?;
+        assert!(rt; beside.lines.iter().filter(|line| is_done(line)).count() == 2);
+    }
     Ok(())
 }

@@ -78,6 +78,7 @@ fn plays<R: AllocGlobal + Threads + Wait + Sync + Clock + Abort>(
     let plan = tasks_of(rt.alloc(), row.tasks, row.delay)?;
     let played = play(rt, plan.as_str(), 1, row.limit, &RunNumber, row.script)?;
     are_told(rt, row.name, &played.said, row.script)?;
+    assert!(rt; !played.forestalled, "{}", row.name);
     check_lines(rt, row.name, &played.lines, row.trace)?;
     Ok(played)
 }
@@ -146,6 +147,7 @@ fn all_done(
     played: &Played,
 ) -> Result<(), Fail> {
     assert!(rt; all_read(&played.results, tasks), "{name}");
+    assert!(rt; !played.forestalled, "{name}");
     let finishes = played.lines.iter().filter(|line| is_finish(line)).count();
     let done = played.lines.iter().filter(|line| is_done(line)).count();
     assert!(rt; finishes == tasks as usize, "{name}: {finishes}");

@@ -34,6 +34,11 @@ ends_runs p.Full = true
 ends_runs p.Memory = true
 ends_runs _ = false
 
+-- a worker is told to leave
+abbrev pub is_leave : Next → Bool
+is_leave (n.Leave call) = true
+is_leave _ = false
+
 -- what lies under the lock: the book, how far the run over it is, how many workers are in a job, what a call of a run was refused
 -- with first, and the workers that sleep
 pub record Under : Type 0 where
@@ -138,11 +143,11 @@ pub record IsRefusedWork (old new : Under) : Type 0 where
 -- behind and one is to be woken for it. It leaves where the workers are to leave, or where its start is refused. Else it sleeps,
 -- where there is no work, is counted as asleep, and wakes who leads exactly where all is quiet
 abbrev pub Decides : ℕ → Next → Under → Under → Type 0
-Decides worker (n.Job work wakes_one) old new = (left : Under) × Starts worker (Some work) old left × Wakes wakes_one left new
-Decides worker n.Leave old new = ((new ≡ old) × (old.stage ≡ s.Leaving)) ⊎ IsRefusedWork old new
-Decides worker (n.Sleep wakes_leader) old new =
+Decides worker (n.Job work call) old new = (left : Under) × Starts worker (Some work) old left × Wakes call.wanted left new
+Decides worker (n.Leave call) old new = ((new ≡ old) × (old.stage ≡ s.Leaving)) ⊎ IsRefusedWork old new
+Decides worker (n.Sleep rest) old new =
     (new ≡ record old { sleepers = rested old.sleepers }) × (HasWork old → ⊥) × (old.stage ≡ s.Leaving → ⊥)
-    × (IsTrue wakes_leader ↔ IsQuiet old)
+    × (IsTrue rest.wakes_leader ↔ IsQuiet old)
 
 -- the finish of a worker's job was taken, or refused; one worker less is in a job either way
 pub record Finishes (worker : ℕ) (ending : Ending) (old new : Under) : Type 0 where
@@ -181,5 +186,5 @@ pub record Opens (moment : ℕ) (old new : Under) : Type 0 where
 -- who leads shows the next moment of its run. Where a call of the run was refused before, nothing changes, and the run ends. Else
 -- the clock is taken, and a worker is woken where there is work and one is to be woken for it; or it is refused, and the run ends
 abbrev pub Leads : ℕ → Lead → Under → Under → Type 0
-Leads moment (l.Moves wakes_one) old new = (opened : Under) × Opens moment old opened × Wakes wakes_one opened new
+Leads moment (l.Moves call) old new = (opened : Under) × Opens moment old opened × Wakes call.wanted opened new
 Leads moment l.Ends old new = ((new ≡ old) × IsSome old.fault) ⊎ ((old.fault ≡ None) × (fault : PoolError) × Refuses fault old new)

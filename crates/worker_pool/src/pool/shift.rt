@@ -9,13 +9,14 @@ ghost use Rattle.executor_model.specs.declared.types.Event.TheVariants as v;
 ghost use Rattle.worker_pool.specs.Books.{IsBook};
 ghost use Rattle.worker_pool.specs.Shares.{known_to};
 ghost use Rattle.worker_pool.specs.Applies.{Applies, Tells};
-ghost use Rattle.worker_pool.specs.own.Shifts.{is_stopped, ends_runs, Under, HasWork, IsQuiet, KeepsLimit, KeepsFault, Refuses, no_sleepers, Wakes, Starts, GetNothing, Decides, Finishes, Brings, Holds, Leads};
+ghost use Rattle.worker_pool.specs.own.Shifts.{is_leave, is_stopped, ends_runs, Under, HasWork, IsQuiet, KeepsLimit, KeepsFault, Refuses, no_sleepers, Wakes, Starts, GetNothing, Decides, Finishes, Brings, Holds, Leads};
 
 use crate::applied::Work;
 use crate::book::Book;
 use crate::error::PoolError;
 use crate::handle::Handle;
 use crate::named::Named;
+use crate::pool::hall::{Rest, WakeAll, WakeLeader, WakeWorker};
 use crate::pool::sleepers::Sleepers;
 use crate::pool::stage::{Advanced, Came, Lead, Next, Stage};
 use crate::shared::Shared;
@@ -114,13 +115,15 @@ impl<N: Named, A: Allocator> Shift<N, A> {
         }
     }
 
-    /// Lets the workers of a run leave.
-    pub fn leave(&mut self)
+    /// Lets the workers of a run leave, once all is quiet.
+    pub fn leave(&mut self) -> WakeAll
+        requires quiet { IsQuiet (seen self.old) }
         ensures leaving { self.new.stage ≡ Stage.Leaving }
         ensures same { (self.new.book ≡ self.old.book) × (self.new.running ≡ self.old.running)
             × (self.new.fault ≡ self.old.fault) × (self.new.sleepers ≡ self.old.sleepers) }
     {
         self.stage = Stage::Leaving;
+        WakeAll::new()
     }
 
     /// A call of the run was refused: the first such is kept, and the workers leave.
@@ -203,7 +206,7 @@ impl<N: Named, A: HeapAllocator> Shift<N, A> {
     pub fn hold(&mut self, shared: &Shared<A>, worker: u8, came: Came) -> Next
         requires shared { (shared.now.table ≡ N.table) × (shared.now.cells ≡ N.cells) }
         ensures holds { Holds worker came result (seen self.old) (seen self.new) }
-        ensures leaves { (result ≡ Next.Leave) ↔ (self.new.stage ≡ Stage.Leaving) }
+        ensures leaves { IsTrue (is_leave result) ↔ (self.new.stage ≡ Stage.Leaving) }
         ensures limit { KeepsLimit (seen self.old) (seen self.new) }
         ensures fault { KeepsFault (seen self.old) (seen self.new) }
     {
@@ -231,30 +234,27 @@ impl<N: Named, A: HeapAllocator> Shift<N, A> {
         ensures decides { (count : ℕ) × (last : Under)
             × GetNothing worker count (seen self.old) last
             × Decides worker result last (seen self.new) }
-        ensures leaves { (result ≡ Next.Leave) ↔ (self.new.stage ≡ Stage.Leaving) }
+        ensures leaves { IsTrue (is_leave result) ↔ (self.new.stage ≡ Stage.Leaving) }
         ensures limit { KeepsLimit (seen self.old) (seen self.new) }
         ensures fault { KeepsFault (seen self.old) (seen self.new) }
     {
         while self.has_work() {
             match self.start(shared, worker) {
                 Ok(Some(work)) => {
-                    let more = self.wake();
-                    return Next::Job {
-                        work,
-                        wakes_one: more,
-                    };
+                    let call = WakeWorker::new(self.wake());
+                    return Next::Job { work, call };
                 }
                 // What was ripe is cancelled.
                 Ok(None) => {}
-                Err(_) => return Next::Leave,
+                Err(_) => return Next::Leave(WakeAll::new()),
             }
         }
         if self.stage == Stage::Leaving {
-            return Next::Leave;
+            return Next::Leave(WakeAll::new());
         }
-        let wakes_leader = self.is_quiet();
+        let rest = Rest::new(self.is_quiet());
         self.sleepers.rest();
-        Next::Sleep { wakes_leader }
+        Next::Sleep(rest)
     }
 
     /// A worker takes a start, and is in a job where it gets work. Where the start is refused, the run is to end.
@@ -293,10 +293,11 @@ impl<N: Named, A: HeapAllocator> Shift<N, A> {
         }
     }
 
-    /// Who leads shows the next moment of its run, which opens it, if no call of the run was refused. Where this clock is
-    /// refused, the run is to end.
+    /// Who leads shows the next moment of its run once all is quiet, which opens it, if no call of the run was refused. Where
+    /// this clock is refused, the run is to end.
     pub fn lead(&mut self, shared: &Shared<A>, moment: u64) -> Lead
         requires shared { (shared.now.table ≡ N.table) × (shared.now.cells ≡ N.cells) }
+        requires quiet { IsQuiet (seen self.old) }
         ensures leads { Leads moment result (seen self.old) (seen self.new) }
         ensures ends { (result ≡ Lead.Ends) ↔ IsSome self.new.fault }
         ensures limit { KeepsLimit (seen self.old) (seen self.new) }
@@ -310,8 +311,7 @@ impl<N: Named, A: HeapAllocator> Shift<N, A> {
             return Lead::Ends;
         }
         self.stage = Stage::Open;
-        let wakes_one = self.wake();
-        Lead::Moves { wakes_one }
+        Lead::Moves(WakeWorker::new(self.wake()))
     }
 
     /// The clock shows a moment, which ends no run and opens none.
@@ -325,9 +325,9 @@ impl<N: Named, A: HeapAllocator> Shift<N, A> {
             (λ told. (did : Applies self.old.book self.new.book (v.Clock moment))
             × Tells self.old.book self.new.book did.last told) }
         ensures told { IfOk result.applied (λ told. (1 ≤ told.count) × (told.work ≡ None)) }
-        ensures wakes { Wakes result.wakes_one (record (seen self.old) { book = self.new.book })
+        ensures wakes { Wakes result.worker.wanted (record (seen self.old) { book = self.new.book })
             (seen self.new) }
-        ensures quiet { IsTrue result.wakes_leader ↔ IsQuiet (seen self.new) }
+        ensures quiet { IsTrue result.leader.wanted ↔ IsQuiet (seen self.new) }
         ensures limit { KeepsLimit (seen self.old) (seen self.new) }
     {
         let _before = self.book.lines();
@@ -335,8 +335,8 @@ impl<N: Named, A: HeapAllocator> Shift<N, A> {
         let _after = self.book.lines();
         Advanced {
             applied,
-            wakes_one: self.wake(),
-            wakes_leader: self.is_quiet(),
+            worker: WakeWorker::new(self.wake()),
+            leader: WakeLeader::new(self.is_quiet()),
         }
     }
 

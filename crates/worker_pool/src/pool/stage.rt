@@ -1,6 +1,7 @@
 //! How far a run is, and what a thread does next that held the lock of a pool.
 use crate::applied::{Applied, Work};
 use crate::error::PoolError;
+use crate::pool::hall::{Rest, WakeAll, WakeLeader, WakeWorker};
 use sched_time::Ending;
 
 /// How far a run is.
@@ -28,32 +29,29 @@ pub enum Came {
 }
 
 /// What a worker does next.
-#[derive(Clone, Copy, Debug, PartialEq, Eq)]
 pub enum Next {
     /// It lets go of the lock, wakes one more worker where one is wanted for the work that it leaves behind, and does this job.
-    Job { work: Work, wakes_one: bool },
+    Job { work: Work, call: WakeWorker },
     /// It lets go of the lock, wakes all other workers and who leads, and is gone.
-    Leave,
+    Leave(WakeAll),
     /// It wakes who leads where all is quiet, and sleeps until it is woken. It is counted as asleep.
-    Sleep { wakes_leader: bool },
+    Sleep(Rest),
 }
 
 /// What who leads a run does next.
-#[derive(Clone, Copy, Debug, PartialEq, Eq)]
 pub enum Lead {
-    /// The clock moved. It wakes a worker where one is wanted; then it sleeps until all is quiet.
-    Moves { wakes_one: bool },
+    /// The clock moved. It wakes a worker where one is wanted; then it waits until all is quiet.
+    Moves(WakeWorker),
     /// The run is to end.
     Ends,
 }
 
 /// What a clock from outside a run is answered, and whom it wakes.
-#[derive(Clone, Copy, Debug, PartialEq, Eq)]
 pub struct Advanced {
     /// The answer of the book.
     pub applied: Result<Applied, PoolError>,
     /// There is work, some worker sleeps and none is counted as coming: one is woken.
-    pub wakes_one: bool,
+    pub worker: WakeWorker,
     /// All is quiet: who leads is woken.
-    pub wakes_leader: bool,
+    pub leader: WakeLeader,
 }

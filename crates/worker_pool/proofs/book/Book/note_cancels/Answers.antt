@@ -18,7 +18,7 @@ overflow_sub-result g c =
 pub invariant_of-self-2 : goal.invariant_of-self-2
 invariant_of-self-2 g c =
     let desk = c.self.inside.desk in
-    let b = book_of desk.seat.table desk.core desk.seat.view desk.happenings.items desk.lines.items c.self.inside.notes.items in
+    let b = book_of desk.seat.table desk.core desk.seat.view desk.happenings.items desk.lines.items c.self.inside.notes.items c.self.inside.forestalled in
     let roomy = c.make_room.new.self in
     let new = c.look_all.new.self in
     let only : OnlyNoted b.core new.core b.happened new.happenings.items =
@@ -31,12 +31,13 @@ invariant_of-self-2 g c =
       c.self.invariant.3,
       c.self.invariant.4,
       looked_book g.N.Named.cells b new.seat.table new.core new.seat.view new.happenings.items new.lines.items c.self.invariant.5 c.look_all.ensures.kept only handles,
+      c.self.invariant.6,
     )
 
 pub returns-clause-noted : goal.returns-clause-noted
 returns-clause-noted g c =
     let desk = c.self.inside.desk in
-    let b = book_of desk.seat.table desk.core desk.seat.view desk.happenings.items desk.lines.items c.self.inside.notes.items in
+    let b = book_of desk.seat.table desk.core desk.seat.view desk.happenings.items desk.lines.items c.self.inside.notes.items c.self.inside.forestalled in
     let roomy = c.make_room.new.self in
     let new = c.look_all.new.self in
     let only : OnlyNoted b.core new.core b.happened new.happenings.items =
@@ -49,14 +50,14 @@ returns-clause-noted g c =
     let count : length new.happenings.items ≡ length b.happened + (c.len.result - c.len-before.result) =
     omega (arith, many, c.len-before.ensures, c.len.ensures, roomy.happenings.ok.0, new.happenings.ok.0, ap length c.make_room.ensures.happenings)
     in
-    let all = book_of new.seat.table new.core new.seat.view new.happenings.items new.lines.items b.notes in
+    let all = book_of new.seat.table new.core new.seat.view new.happenings.items new.lines.items b.notes b.forestalled in
     subst (λ (old : BookView). (noted : List HistoryEntry) × OnlyNotes old all noted × (length noted ≡ c.len.result - c.len-before.result)) c.self.view_is
     (looked_notes g.N.Named.cells b new.seat.table new.core new.seat.view new.happenings.items new.lines.items (c.len.result - c.len-before.result) c.self.invariant.5 c.look_all.ensures.kept only handles own marks count)
 
 pub returns-clause-known : goal.returns-clause-known
 returns-clause-known g c =
     let new = c.look_all.new.self in
-    book_knows g.N.Named.cells (book_of new.seat.table new.core new.seat.view new.happenings.items new.lines.items c.self.inside.notes.items) (invariant_of-self-2 g c).5
+    book_knows g.N.Named.cells (book_of new.seat.table new.core new.seat.view new.happenings.items new.lines.items c.self.inside.notes.items c.self.inside.forestalled) (invariant_of-self-2 g c).5
 
 pub returns-clause-looked : goal.returns-clause-looked
 returns-clause-looked g c =

@@ -13,7 +13,7 @@ use Rattle.worker_pool.proofs.book.Book.retire.Goals as goal
 pub look_all-requires-clause-kept : goal.look_all-requires-clause-kept
 look_all-requires-clause-kept g c =
     let desk = c.self.inside.desk in
-    let b = book_of desk.seat.table desk.core desk.seat.view desk.happenings.items desk.lines.items c.self.inside.notes.items in
+    let b = book_of desk.seat.table desk.core desk.seat.view desk.happenings.items desk.lines.items c.self.inside.notes.items c.self.inside.forestalled in
     let roomy = c.make_room.new.self in
     let kept : IsKept roomy.core roomy.seat.view roomy.happenings.items roomy.lines.items =
     subst (λ m. IsKept m roomy.seat.view roomy.happenings.items roomy.lines.items) (sym c.make_room.ensures.core)
@@ -26,7 +26,7 @@ look_all-requires-clause-kept g c =
 pub invariant_of-self-2 : goal.invariant_of-self-2
 invariant_of-self-2 g c =
     let desk = c.self.inside.desk in
-    let b = book_of desk.seat.table desk.core desk.seat.view desk.happenings.items desk.lines.items c.self.inside.notes.items in
+    let b = book_of desk.seat.table desk.core desk.seat.view desk.happenings.items desk.lines.items c.self.inside.notes.items c.self.inside.forestalled in
     let roomy = c.make_room.new.self in
     let new = c.look_all.new.self in
     let only : OnlyNoted b.core new.core b.happened new.happenings.items =
@@ -45,12 +45,13 @@ invariant_of-self-2 g c =
       c.self.invariant.3,
       c.self.invariant.4,
       retired_book g.N.Named.cells b new.seat.table c.into_seat.result.view new.core new.seat.view new.happenings.items new.lines.items c.self.invariant.5 wins c.look_all.ensures.kept only handles tells,
+      c.self.invariant.6,
     )
 
 pub returns-clause-retired : goal.returns-clause-retired
 returns-clause-retired g c =
     let desk = c.self.inside.desk in
-    let b = book_of desk.seat.table desk.core desk.seat.view desk.happenings.items desk.lines.items c.self.inside.notes.items in
+    let b = book_of desk.seat.table desk.core desk.seat.view desk.happenings.items desk.lines.items c.self.inside.notes.items c.self.inside.forestalled in
     let roomy = c.make_room.new.self in
     let new = c.look_all.new.self in
     let only : OnlyNoted b.core new.core b.happened new.happenings.items =
@@ -68,5 +69,5 @@ returns-clause-retired g c =
     let wins : WinsBelow (task_count new.core.calls) c.args.handle.seat =
     subst (λ v. WinsBelow (task_count new.core.calls) v) c.into_seat.ensures.view (subst (λ n. WinsBelow n c.into_seat.result.view) count c.into_seat.ensures.won)
     in
-    subst (λ (old : BookView). Retires old (book_of new.seat.table new.core new.seat.view new.happenings.items new.lines.items b.notes) c.args.handle.seat) c.self.view_is
+    subst (λ (old : BookView). Retires old (book_of new.seat.table new.core new.seat.view new.happenings.items new.lines.items b.notes b.forestalled) c.args.handle.seat) c.self.view_is
     (retired g.N.Named.cells b new.seat.table c.args.handle.seat new.core new.seat.view new.happenings.items new.lines.items c.self.invariant.5 wins c.look_all.ensures.kept only handles own marks tells)
