@@ -6,7 +6,7 @@ use Rattle.std.specs.Option.{option_map_or}
 use Rattle.std.proofs.lemmas.Bool.{false≢true, eqb-true, and_parts}
 use Rattle.std.proofs.lemmas.List.{length-append, get_or_append_left, get_or-set_same, get_or-set_other}
 use Rattle.std.proofs.lemmas.List.Elements.{All-nil, All-cons, All-head, All-tail}
-use Rattle.std.proofs.lemmas.Option.{same_Some}
+use Rattle.std.proofs.lemmas.Option.{none-some, same_Some}
 use Rattle.std.proofs.Math.Seq.{get_or-append_seam}
 use Rattle.task_table.specs.declared.seat.Seat.{Seat}
 use Rattle.task_table.specs.declared.seat.TaskRef.{TaskRef}
@@ -24,6 +24,7 @@ use Rattle.timers.specs.Timers.{TimersView, WereGiven, GivesNone, Gives, HasItsO
 use Rattle.timers.specs.Calls.{Shows, IsPollError}
 use Rattle.timers.specs.declared.error.PollError.{PollError}
 use Rattle.timers.specs.declared.error.PollError.TheVariants as pe
+use Rattle.timers.specs.own.Formed.{IsKept}
 use Rattle.timers.specs.own.Rooms.{seen, stored, Grows, HasPlace, IsReady, MakesRoom}
 use Rattle.timers.proofs.Roomy.{slot_grown, data_grown, growing, same_size}
 
@@ -218,3 +219,74 @@ kept_after old mid new kept at delay timing s value room long ready p stays is g
     let place = has_place mid.live new mid.user_data at delay timing s long ready p in
     subst (λ (d : List ℕ). WereGiven (seen new d) (given ++ value ∷ [])) (sym is)
     (kept_new mid.live new mid.user_data s value place stays p.seated p.number given (kept_roomy old mid room given w))
+
+-- ---- what stays true of timers
+
+-- some data were given still
+still_kept : (old new : TimersView) → length new.user_data ≡ length new.live.table.slots → GivesNone old new → IsKept old → IsKept new
+still_kept old new size gives k = record { size = size; given = k.given; were_given = gives k.given k.were_given }
+
+-- and these too
+more_kept : (old new : TimersView) (value : ℕ) → length new.user_data ≡ length new.live.table.slots → Gives old new value → IsKept old → IsKept new
+more_kept old new value size gives k = record { size = size; given = k.given ++ value ∷ []; were_given = gives k.given k.were_given }
+
+-- nothing was given yet
+pub none_given : (m : TimersView) → m.live.count ≡ 0 → m.live.table.slots ≡ [] → m.live.ended ≡ [] → WereGiven m []
+none_given m first slots ended = record {
+  count = sym first;
+  held = λ slot x there. absurd (none-some x (sym (ap (λ (s : List (Option Seat)). slot_of s slot) slots) ∙ there));
+  ended = subst (All (HasItsOwn m [])) (sym ended) (All-nil (HasItsOwn m []));
+}
+
+pub none_kept : (m : TimersView) → length m.user_data ≡ length m.live.table.slots → WereGiven m [] → IsKept m
+none_kept m size given = record { size = size; given = []; were_given = given }
+
+-- as many slots are left
+size_left : (m new : LiveView) (kept : List ℕ) → Stays m new m.count → length kept ≡ length m.table.slots → length kept ≡ length new.table.slots
+size_left m new kept s size = size ∙ sym (s.size refl)
+
+-- no call was made
+pub same_kept : (m new : LiveView) (kept : List ℕ) → new ≡ m → IsKept (seen m kept) → IsKept (seen new kept)
+same_kept m new kept e k = subst (λ (v : LiveView). IsKept (seen v kept)) (sym e) k
+
+-- after a call that may end tasks, or be refused
+pub swept_kept : {T E : Type 0} (r : Result T E) (m new : LiveView) (kept : List ℕ) → OnOk r (Stays m new m.count) → OnOk r (AreGone m.table new.table new.ended) → OnErr r (new ≡ m) → IsKept (seen m kept) → IsKept (seen new kept)
+swept_kept (Ok t) m new kept s gone same k = still_kept (seen m kept) (seen new kept) (size_left m new kept s k.size) (kept_swept m new kept s gone) k
+swept_kept (Err e) m new kept s gone same k = same_kept m new kept same k
+
+-- after a call or an event that ends none
+pub calm_kept : (m new : LiveView) (kept : List ℕ) → StaysQuiet m new m.count → IsKept (seen m kept) → IsKept (seen new kept)
+calm_kept m new kept q k = still_kept (seen m kept) (seen new kept) (size_left m new kept q.stays k.size) (kept_quiet m new kept q) k
+
+-- the same of one that may be refused
+pub quiet_kept : {T E : Type 0} (r : Result T E) (m new : LiveView) (kept : List ℕ) → OnOk r (StaysQuiet m new m.count) → OnErr r (new ≡ m) → IsKept (seen m kept) → IsKept (seen new kept)
+quiet_kept (Ok t) m new kept q same k = calm_kept m new kept q k
+quiet_kept (Err e) m new kept q same k = same_kept m new kept same k
+
+-- after the clock shows a moment
+shown_kept : (m new : LiveView) (kept : List ℕ) (now : ℕ) → Shows m new now → IsKept (seen m kept) → IsKept (seen new kept)
+shown_kept m new kept now s k = still_kept (seen m kept) (seen new kept) (k.size ∙ sym (ap length s.slots)) (kept_shown m new kept now s) k
+
+-- after the clock, and an event that ends no task
+pub event_kept : (m between new : LiveView) (kept : List ℕ) (now : ℕ) → Shows m between now → Stays between new between.count → new.ended ≡ [] → IsKept (seen m kept) → IsKept (seen new kept)
+event_kept m between new kept now shows stays ended k =
+    let mid = shown_kept m between kept now shows k in
+    calm_kept between new kept (record { stays = stays; ended = ended }) mid
+
+-- after a poll that begins no run
+pub unpolled_kept : (m new : LiveView) (kept : List ℕ) (now worker : ℕ) (error : PollError) → IsPollError m new now worker error → IsKept (seen m kept) → IsKept (seen new kept)
+unpolled_kept m new kept now worker pe.NoWorker q k = same_kept m new kept q.1 k
+unpolled_kept m new kept now worker pe.Busy q k = same_kept m new kept q.1 k
+unpolled_kept m new kept now worker pe.TooFar q k = same_kept m new kept q.2 k
+unpolled_kept m new kept now worker pe.Full q k = shown_kept m new kept now q.1 k
+
+-- after there are more slots, where memory was granted
+pub grown_kept : {T E : Type 0} (r : Result T E) (old new : TimersView) (slots : ℕ) → length new.user_data ≡ length new.live.table.slots → OnOk r (Grows old new slots) → OnErr r (new.live ≡ old.live) → OnErr r (new.user_data ≡ old.user_data) → IsKept old → IsKept new
+grown_kept r old new slots size grows live kept k = still_kept old new size (grown_or_same r old new slots grows live kept) k
+
+-- after a submission, or none
+pub submitted_kept : {T E : Type 0} (r : Result T E) (old new : TimersView) (value : ℕ) → length new.user_data ≡ length new.live.table.slots → OnOk r (Gives old new value) → OnErr r (new.live ≡ old.live) → OnErr r (new.user_data ≡ old.user_data) → IsKept old → IsKept new
+submitted_kept (Ok t) old new value size gives live kept k = more_kept old new value size gives k
+submitted_kept (Err e) old new value size gives live kept k =
+    let is : new ≡ old = ap (λ (v : LiveView). seen v new.user_data) live ∙ ap (λ (d : List ℕ). seen old.live d) kept in
+    subst IsKept (sym is) k

@@ -100,6 +100,7 @@ stays_grown m new slots q = record {
     size = λ q. absurd (omega (arith, q));
     given = q.stays.given;
     apart = q.stays.apart;
+    alive = q.stays.alive;
   };
   ended = q.ended;
 }

@@ -70,6 +70,7 @@ mod answers;
 mod clock;
 mod error;
 mod events;
+mod laws;
 mod room;
 mod runs;
 mod shutting;
@@ -79,5 +80,6 @@ mod timers;
 
 pub use answers::{Finished, Run};
 pub use error::{FinishError, PollError};
+pub use laws::all_timers_stand;
 pub use live_core::{CallError, MakeError, Submitted, TaskRef};
 pub use timers::Timers;

@@ -20,14 +20,14 @@ pub struct Timers<A: Allocator> {
 }
 
 impl<A: Allocator> Model for Timers<A> {
-    ghost use Rattle.std.specs.Prelude.{◌≡◌, length};
     ghost use Rattle.timers.specs.Timers.{TimersView};
+    ghost use Rattle.timers.specs.own.Formed.{IsKept};
 
     ghost Value = { TimersView };
 
     ghost view = { λ t. record { live = t.executor; user_data = t.user_data.items } };
 
-    ghost invariant = { λ t. length t.user_data.items ≡ length t.executor.table.slots };
+    ghost invariant = { λ t. IsKept (record { live = t.executor; user_data = t.user_data.items }) };
 }
 
 impl<A: Allocator> Timers<A> {

@@ -31,7 +31,7 @@ use Rattle.live_core.specs.declared.error.CallError.{CallError}
 use Rattle.live_core.specs.declared.error.CallError.TheVariants as ce
 use Rattle.live_core.specs.Cancels.{CancelsOutside}
 use Rattle.live_core.specs.Lives.{LiveView, Stands, Stays, StaysQuiet, moment_of_call}
-use Rattle.live_core.specs.Said.{IsSubmitError, IsPeriodicError, alive_in, ending, submit_reply}
+use Rattle.live_core.specs.Said.{IsSubmitError, IsPeriodicError, alive_in, ending, submit_reply, tasks_in}
 use Rattle.live_core.specs.Shutting.{AreGone, Asks, Sets, ShutsDown, StopsAtOnce, shutdown_answer}
 use Rattle.timers.specs.declared.answers.Finished.{Finished}
 use Rattle.timers.specs.declared.answers.Run as begun
@@ -397,9 +397,9 @@ state_of m = record {
   terminated = number_of_bool (m.timers.live.table.shut && (alive_in m.timers.live.table.slots == 0));
 }
 
--- what the asking how far timers are came to
+-- what the asking how far timers are came to: as many tasks are alive as have a slot
 abbrev pub Reads : Status → State → Option Seen → Option Seen → Type 0
-Reads s.Done state (Some old) (Some new) = (new ≡ old) × (state ≡ state_of old)
+Reads s.Done state (Some old) (Some new) = (new ≡ old) × (state ≡ state_of old) × (tasks_in old.timers.live.table.slots ≡ state.alive)
 Reads s.NoTimers state None None = state ≡ no_state
 Reads _ state old new = ⊥
 

@@ -1,6 +1,7 @@
 //! How far timers and their tasks are, as numbers.
 ghost use Rattle.std.specs.Prelude.{◌≡◌};
 ghost use Rattle.std.specs.Option.{option_map_or};
+ghost use Rattle.live_core.specs.Said.{tasks_in};
 ghost use Rattle.task_table.specs.Seats.{task_in};
 ghost use Rattle.timers_c.specs.Numbers.{number_of_bool, number_of_phase};
 ghost use Rattle.timers_c.specs.Calls.{bits_of, counts_of, no_counts, no_state, no_task, phase_of, state_of, task_state_of};
@@ -52,7 +53,8 @@ impl State {
 
     /// That of a session.
     pub fn of(session: &Session) -> State
-        ensures { result ≡ state_of session.now }
+        ensures state { result ≡ state_of session.now }
+        ensures slots { tasks_in session.now.timers.live.table.slots ≡ result.alive }
     {
         let timers = session.timers();
         let alive = timers.len();

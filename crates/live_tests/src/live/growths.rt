@@ -1,7 +1,7 @@
 //! Want of memory: rows are played with each growth refused in turn, and all before and behind it granted.
 
-use super::play_rows;
 use super::steps::{do_step, look};
+use super::{play_case, play_rows};
 use crate::said::text_of_lines;
 use crate::words::{Row, Words, compare, lone};
 use executor_model::{Answer, Line};
@@ -147,4 +147,20 @@ fn may_want(word: &str) -> bool {
         word,
         "schedule" | "execute" | "at_rate" | "with_delay" | "reserve"
     )
+}
+
+/// Each kind of submission, from no slot on, and room that is made.
+const GROWTHS: &str = "\
+each growth may be refused
+execute 0 | accepted 0 3 0
+schedule 0 5 | accepted 1 2 5
+at_rate 0 6 10 | accepted 2 1 6
+with_delay 0 7 10 | accepted 3 0 7
+execute 0 | accepted 4 11 0
+reserve 30 | made
+";
+
+#[test]
+fn each_growth_may_be_refused(rt: HostRuntime) -> Result<(), Fail> {
+    play_case(&rt, GROWTHS)
 }

@@ -100,3 +100,16 @@ fn empties<A: Allocator>(executor: &mut ScheduledExecutor<A>, tasks: u32) -> boo
 fn run<A: Allocator>(executor: &mut ScheduledExecutor<A>) -> bool {
     tells(executor, "start", "begun") && tells(executor, "finish", "done")
 }
+
+/// How many tasks are submitted and run, one lot behind the other: from no slot on, and where slots are used again.
+const LOTS: &[u32] = &[1, 4, 5, 1_000, 5_000];
+
+#[test]
+fn no_want_of_memory_is_told_where_it_is_ample(rt: HostRuntime) -> Result<(), Fail> {
+    let mut executor = ScheduledExecutor::new(rt.alloc(), 1)?;
+    for tasks in LOTS {
+        assert!(rt; fills(&mut executor, *tasks), "{tasks}");
+        assert!(rt; empties(&mut executor, *tasks), "{tasks}");
+    }
+    Ok(())
+}
