@@ -14,7 +14,7 @@ use Rattle.worker_pool.specs.Books.{BookView, IsBook, IsIdle, past_of}
 use Rattle.sched_engine.specs.declared.report.Report.{Report}
 use Rattle.pool_engine.specs.declared.stops.PoolStop.TheVariants as p
 use Rattle.sched_engine.specs.Running.{text_of}
-use Rattle.pool_engine.specs.PoolRuns.{AreFirstOf, IsBy, PoolWrote, RunsToLimit, RunsToRest, clocks_of, event_count}
+use Rattle.pool_engine.specs.PoolRuns.{AreFirstOf, IsByPool, PoolWrote, RunsToLimit, RunsToRest, clocks_of, event_count}
 use Rattle.pool_engine.specs.own.Ended.{IsFilled, IsRested}
 use Rattle.pool_engine.proofs.Courses.{course_is}
 use Rattle.pool_engine.proofs.Fits.{history_all, history_short}
@@ -37,12 +37,12 @@ pub book_fits : (b : BookView) (happened : List Happening) → happened ≡ b.ha
 book_fits b happened same fit short = record { fit = subst (All FitsHappening) same fit; short = subst (λ (l : List Happening). length l ≤ 2 ^ 64) same short }
 
 -- a list shows these moments that is a book's, and nothing is due in the book, or under way
-pub at_rest_by : (b : BookView) (happened : List Happening) (moments : List ℕ) → happened ≡ b.happened → clocks_of happened ≡ moments → All (IsBy (workers_of b.core)) happened → (IsRipe b.core.calls (view_of_state b.core.calls (state_of b.core)) → ⊥) → IsIdle b → IsRested b moments
-at_rest_by b happened moments same shown by rests idle = record { clocks = ap clocks_of (sym same) ∙ shown; by = subst (All (IsBy (workers_of b.core))) same by; rests = rests; idle = idle }
+pub at_rest_by : (b : BookView) (happened : List Happening) (moments : List ℕ) → happened ≡ b.happened → clocks_of happened ≡ moments → All (IsByPool (workers_of b.core)) happened → (IsRipe b.core.calls (view_of_state b.core.calls (state_of b.core)) → ⊥) → IsIdle b → IsRested b moments
+at_rest_by b happened moments same shown by rests idle = record { clocks = ap clocks_of (sym same) ∙ shown; by = subst (All (IsByPool (workers_of b.core))) same by; rests = rests; idle = idle }
 
 -- a list shows the first of these moments that is a book's, which has so many events
-pub filled_by : (b : BookView) (happened : List Happening) (limit : ℕ) (moments : List ℕ) → happened ≡ b.happened → AreFirstOf (clocks_of happened) moments → All (IsBy (workers_of b.core)) happened → event_count happened ≡ limit → IsFilled b limit moments
-filled_by b happened limit moments same shown by full = record { clocks = subst (λ (l : List Happening). AreFirstOf (clocks_of l) moments) same shown; by = subst (All (IsBy (workers_of b.core))) same by; full = ap event_count (sym same) ∙ full }
+pub filled_by : (b : BookView) (happened : List Happening) (limit : ℕ) (moments : List ℕ) → happened ≡ b.happened → AreFirstOf (clocks_of happened) moments → All (IsByPool (workers_of b.core)) happened → event_count happened ≡ limit → IsFilled b limit moments
+filled_by b happened limit moments same shown by full = record { clocks = subst (λ (l : List Happening). AreFirstOf (clocks_of l) moments) same shown; by = subst (All (IsByPool (workers_of b.core))) same by; full = ap event_count (sym same) ∙ full }
 
 -- a book is at rest, and has no more events than the limit allows
 rested : (cells : List ℕ) (b : BookView) (limit events : ℕ) (moments : List ℕ) → IsBook cells b → FitsBook b → IsRested b moments → events ≡ event_count b.happened → events ≤ limit
@@ -54,7 +54,7 @@ rested cells b limit events moments book fits at_rest count few =
       fit = history_all FitsHappening b.core.calls (workers_of b.core) b.happened fits.fit;
       short = history_short b.core.calls (workers_of b.core) b.happened fits.short;
       clocks = ap clocks_of course ∙ at_rest.clocks;
-      by = history_all (IsBy (workers_of b.core)) b.core.calls (workers_of b.core) b.happened at_rest.by;
+      by = history_all (IsByPool (workers_of b.core)) b.core.calls (workers_of b.core) b.happened at_rest.by;
       rests = λ due. at_rest.rests (subst (λ s. IsRipe b.core.calls (view_of_state b.core.calls s)) (sym book.stands) due);
       idle = λ worker. ap (λ (s : State). s.workers worker) (sym book.stands) ∙ at_rest.idle worker;
       within = omega (arith, few, count, ap event_count course);
@@ -67,7 +67,7 @@ at_limit cells b limit moments book fits filled = record {
   fit = history_all FitsHappening b.core.calls (workers_of b.core) b.happened fits.fit;
   short = history_short b.core.calls (workers_of b.core) b.happened fits.short;
   clocks = subst (λ (l : List Happening). AreFirstOf (clocks_of l) moments) (sym (course_is b.core.calls (workers_of b.core) b.happened)) filled.clocks;
-  by = history_all (IsBy (workers_of b.core)) b.core.calls (workers_of b.core) b.happened filled.by;
+  by = history_all (IsByPool (workers_of b.core)) b.core.calls (workers_of b.core) b.happened filled.by;
   full = ap event_count (course_is b.core.calls (workers_of b.core) b.happened) ∙ filled.full;
 }
 

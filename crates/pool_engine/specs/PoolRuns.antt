@@ -52,17 +52,19 @@ IsAtRest calls workers past = IsRipe calls (view_of_state calls (after calls wor
 abbrev pub IsIdle : List Planned → ℕ → List HistoryEntry → Type 0
 IsIdle calls workers past = (worker : ℕ) → (after calls workers (happenings past)).workers worker ≡ None
 
--- a start or a finish is by one of so many workers
-abbrev pub IsBy : ℕ → Happening → Type 0
-IsBy workers (h.Start worker) = worker < workers
-IsBy workers (h.Finish worker ending) = worker < workers
-IsBy workers _ = Unit {0}
+-- what happens is by a pool of so many workers to which no handle is out: a start or a finish is by one of them, and nothing is a
+-- cancel from outside
+abbrev pub IsByPool : ℕ → Happening → Type 0
+IsByPool workers (h.Start worker) = worker < workers
+IsByPool workers (h.Finish worker ending) = worker < workers
+IsByPool workers (h.Cancel task) = ⊥
+IsByPool workers _ = Unit {0}
 
 -- some moments are the first of these
 abbrev pub AreFirstOf : List ℕ → List ℕ → Type 0
 AreFirstOf front moments = (later : List ℕ) × (front ++ later ≡ moments)
 
--- a history is one that the calls allow, with the clocks of the input, and starts and finishes by the workers, within the limit;
+-- a history is one that the calls allow, with the clocks of the input, and all else by a pool of the workers, within the limit;
 -- after it nothing is due, and no run is under way. What it hands in fits, and it is no longer than 2^64: so its text conforms, as
 -- a law says
 pub record RunsToRest (calls : List Planned) (workers limit : ℕ) (moments : List ℕ) (past : List HistoryEntry) : Type 0 where
@@ -70,19 +72,19 @@ pub record RunsToRest (calls : List Planned) (workers limit : ℕ) (moments : Li
   pub fit : All FitsHappening (happenings past)
   pub short : length past ≤ 2 ^ 64
   pub clocks : clocks_of (happened_in past) ≡ moments
-  pub by : All (IsBy workers) (happenings past)
+  pub by : All (IsByPool workers) (happenings past)
   pub rests : IsAtRest calls workers past
   pub idle : IsIdle calls workers past
   pub within : event_count (happened_in past) ≤ limit
 
--- a history is one that the calls allow, with clocks that are the first of the input, and starts and finishes by the workers, and
+-- a history is one that the calls allow, with clocks that are the first of the input, and all else by a pool of the workers, and
 -- with as many events as the limit allows; what it hands in fits, and it is no longer than 2^64
 pub record RunsToLimit (calls : List Planned) (workers limit : ℕ) (moments : List ℕ) (past : List HistoryEntry) : Type 0 where
   pub means : IsHistoryOf calls workers past
   pub fit : All FitsHappening (happenings past)
   pub short : length past ≤ 2 ^ 64
   pub clocks : AreFirstOf (clocks_of (happened_in past)) moments
-  pub by : All (IsBy workers) (happenings past)
+  pub by : All (IsByPool workers) (happenings past)
   pub full : event_count (happened_in past) ≡ limit
 
 -- ---- a run

@@ -3,7 +3,7 @@ ghost use Rattle.std.specs.Prelude.{◌≡◌, ◌≢◌, ℕ, ◌^◌, ◌≤�
 ghost use Rattle.trace_text.specs.Spelling.{lines_text};
 ghost use Rattle.trace_check.specs.Laws.{FitsHappening};
 ghost use Rattle.byte_ends.specs.Ends.{CountsTries};
-ghost use Rattle.pool_engine.specs.PoolRuns.{AreFirstOf, IsBy, clocks_of, event_count};
+ghost use Rattle.pool_engine.specs.PoolRuns.{AreFirstOf, IsByPool, clocks_of, event_count};
 ghost use Rattle.pool_engine.specs.own.Ended.{TextWritten};
 
 use byte_ends::{Sink, write_text};
@@ -21,7 +21,7 @@ pub struct Told {
     pub shows_first: bool,
     /// Whether they show all of them.
     pub shows_all: bool,
-    /// Whether each start and each finish is by one of the workers.
+    /// Whether each start and each finish is by one of the workers, and nothing is a cancel from outside.
     pub by_workers: bool,
 }
 
@@ -30,7 +30,7 @@ pub fn look_back(happened: &[KeptHappening], moments: &[u64], workers: u8) -> To
     ensures events { result.events ≡ event_count happened.now }
     ensures first { IsTrue result.shows_first ↔ AreFirstOf (clocks_of happened.now) moments.now }
     ensures shows { IsTrue result.shows_all ↔ (clocks_of happened.now ≡ moments.now) }
-    ensures by { IsTrue result.by_workers ↔ All (IsBy workers) happened.now }
+    ensures by { IsTrue result.by_workers ↔ All (IsByPool workers) happened.now }
     ensures fit { All FitsHappening happened.now }
     ensures short { length happened.now ≤ 2 ^ 64 }
 {
@@ -75,13 +75,14 @@ fn left_behind(moment: u64, moments: &[u64]) -> Option<&[u64]>
     Some(rest)
 }
 
-/// Whether a start or a finish is by one of so many workers; nothing else has a worker.
+/// Whether what happens is by a pool of so many workers to which no handle is out: no cancel from outside is.
 fn is_by(happening: Happening, workers: u8) -> bool
-    ensures { IsTrue result ↔ IsBy workers happening }
+    ensures { IsTrue result ↔ IsByPool workers happening }
 {
     match happening {
         Happening::Start(worker) | Happening::Finish(worker, _) => worker < workers,
-        Happening::Call | Happening::Clock(_) | Happening::Cancel(_) => true,
+        Happening::Call | Happening::Clock(_) => true,
+        Happening::Cancel(_) => false,
     }
 }
 

@@ -204,12 +204,14 @@ impl<'s, N: Named, A: HeapAllocator> Pool<'s, N, A> {
     /// Moves the clock through the moments, and waits at each until all is quiet. Then all workers leave.
     fn lead<R: Wait>(&self, rt: &R, moments: &[u64], made: bool) {
         let mut shift = self.hall.enter(rt);
-        shift.begin(made);
+        if let Some(call) = shift.begin(made) {
+            return self.hall.leave(shift, call);
+        }
         for &moment in moments {
             shift = self.hall.until_quiet(rt, shift);
             match shift.lead(self.shared, moment) {
                 Lead::Moves(call) => shift = self.hall.pass(rt, shift, call),
-                Lead::Ends => break,
+                Lead::Ends(call) => return self.hall.leave(shift, call),
             }
         }
         shift = self.hall.until_quiet(rt, shift);

@@ -12,20 +12,20 @@ use Rattle.pool_engine.specs.declared.stops.LastError.TheVariants as l
 use Rattle.pool_engine.specs.declared.stops.PoolStop.{PoolStop}
 use Rattle.pool_engine.specs.declared.stops.PoolStop.TheVariants as p
 use Rattle.sched_engine.specs.declared.report.Report.{Report}
-use Rattle.pool_engine.specs.PoolRuns.{AreFirstOf, IsBy, clocks_of, event_count}
+use Rattle.pool_engine.specs.PoolRuns.{AreFirstOf, IsByPool, clocks_of, event_count}
 
--- the clocks of a book show these moments, its starts and finishes are by its workers, no task that waits or is kept is due in it,
+-- the clocks of a book show these moments, all that happened is by a pool of its workers, no task that waits or is kept is due in it,
 -- and no run is under way
 pub record IsRested (b : BookView) (moments : List ℕ) : Type 0 where
   pub clocks : clocks_of b.happened ≡ moments
-  pub by : All (IsBy (workers_of b.core)) b.happened
+  pub by : All (IsByPool (workers_of b.core)) b.happened
   pub rests : IsRipe b.core.calls (view_of_state b.core.calls (state_of b.core)) → ⊥
   pub idle : IsIdle b
 
--- the clocks of a book show the first of these moments, its starts and finishes are by its workers, and its events are so many
+-- the clocks of a book show the first of these moments, all that happened is by a pool of its workers, and its events are so many
 pub record IsFilled (b : BookView) (limit : ℕ) (moments : List ℕ) : Type 0 where
   pub clocks : AreFirstOf (clocks_of b.happened) moments
-  pub by : All (IsBy (workers_of b.core)) b.happened
+  pub by : All (IsByPool (workers_of b.core)) b.happened
   pub full : event_count b.happened ≡ limit
 
 -- `true`: the clocks so far show the first of these moments, and the others are left; `false`: they do not show the first of them,

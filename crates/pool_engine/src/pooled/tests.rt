@@ -67,12 +67,14 @@ fn told_full<N: Named>(
     Ok((told, writer.into_inner()))
 }
 
-/// Checks what is told of a book that shows the moment 0 and has a task due then, before and after its run.
+/// Checks what is told of a book that shows the moment 0 and has a task due then, before and after its run, and once something
+/// happened that is by no pool of one worker.
 fn tells<N: Named>(
     rt: &(impl AllocGlobal + Abort),
     shared: &Shared<Global>,
     seat: CoreSeat<Global>,
     code: Code<Global>,
+    foreign: Event,
 ) -> Result<(), Fail>
     requires shared { (shared.now.table ≡ N.table) × (shared.now.cells ≡ N.cells) }
     requires seat { (seat.table ≡ shared.now.table) × (seat.view ≡ new_core shared.now.tasks) }
@@ -80,7 +82,7 @@ fn tells<N: Named>(
     requires named { (calls_of code ≡ N.calls) × (1 ≡ N.workers) }
 {
     let mut book = Book::<N, Global>::new(rt.alloc(), shared, seat, code, 1, 100)?;
-    tells_of(rt, shared, &mut book)
+    tells_of(rt, shared, &mut book, foreign)
 }
 
 /// Checks what is told of that book.
@@ -88,6 +90,7 @@ fn tells_of<N: Named>(
     rt: &(impl AllocGlobal + Abort),
     shared: &Shared<Global>,
     book: &mut Book<N, Global>,
+    foreign: Event,
 ) -> Result<(), Fail>
     requires shared { (shared.now.table ≡ N.table) × (shared.now.cells ≡ N.cells) }
 {
@@ -101,12 +104,13 @@ fn tells_of<N: Named>(
     book.apply(shared, Event::Finish(0, Ending::Value(0)))?;
     tells_rested(rt, book)?;
     tells_full(rt, book)?;
-    // No worker of the pool is number 1.
-    book.apply(shared, Event::Start(1))?;
+    book.apply(shared, foreign)?;
     let (told, text) = told_rested(alloc, book, 100, &[0])?;
     assert!(rt; told == Err(RunError::Lost) && text.is_empty());
-    let (told, text) = told_full(alloc, book, 4, &[0])?;
-    assert!(rt; told == Err(RunError::Lost) && text.is_empty());
+    for limit in 3..=4 {
+        let (told, text) = told_full(alloc, book, limit, &[0])?;
+        assert!(rt; told == Err(RunError::Lost) && text.is_empty());
+    }
     Ok(())
 }
 
@@ -158,9 +162,16 @@ fn tells_full<N: Named>(
 
 #[test]
 fn lost_books_are_told_so(rt: HostRuntime) -> Result<(), Fail> {
+    // No worker of the pool is number 1, and no handle of it is out.
+    tells_with(&rt, Event::Start(1))?;
+    tells_with(&rt, Event::Cancel(0))
+}
+
+/// The same of a new book.
+fn tells_with(rt: &(impl AllocGlobal + Abort), foreign: Event) -> Result<(), Fail> {
     let alloc = rt.alloc();
     let instrs = vec![in alloc; Instr::Submit(0, Timing::Once, 0), Instr::Halt]?;
     let code = Code::check(alloc, instrs)?;
     let (shared, seat) = Shared::new(alloc, code.tasks())?;
-    tells::<Brand>(&rt, &shared, seat, code)
+    tells::<Brand>(rt, &shared, seat, code, foreign)
 }

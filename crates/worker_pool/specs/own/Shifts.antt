@@ -174,6 +174,11 @@ pub record Holds (worker : ℕ) (came : Came) (next : Next) (old new : Under) : 
 
 -- ---- a hold of the lock by who leads
 
+-- who leads is told that the run is to end
+abbrev pub ends_run : Lead → Bool
+ends_run (l.Moves call) = false
+ends_run (l.Ends call) = true
+
 -- the clock of who leads is taken, and opens the run
 pub record Opens (moment : ℕ) (old new : Under) : Type 0 where
   pub unrefused : old.fault ≡ None
@@ -187,4 +192,4 @@ pub record Opens (moment : ℕ) (old new : Under) : Type 0 where
 -- the clock is taken, and a worker is woken where there is work and one is to be woken for it; or it is refused, and the run ends
 abbrev pub Leads : ℕ → Lead → Under → Under → Type 0
 Leads moment (l.Moves call) old new = (opened : Under) × Opens moment old opened × Wakes call.wanted opened new
-Leads moment l.Ends old new = ((new ≡ old) × IsSome old.fault) ⊎ ((old.fault ≡ None) × (fault : PoolError) × Refuses fault old new)
+Leads moment (l.Ends call) old new = ((new ≡ old) × IsSome old.fault) ⊎ ((old.fault ≡ None) × (fault : PoolError) × Refuses fault old new)

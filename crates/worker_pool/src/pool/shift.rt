@@ -1,6 +1,6 @@
 //! What lies under the lock of a pool: a book, how far the run over it is, and who sleeps. Its functions are what a thread does
 //! there in one hold of the lock, and say what it does next.
-ghost use Rattle.std.specs.Prelude.{◌≡◌, ◌⊎◌, ◌+◌, ◌≤◌, ◌↔◌, ℕ, true, false, Some, None, Err, IsTrue, IsOk, IsSome, IsErrOf, IfErr, IfOk, OnOk, OnErr, MatchOption, is_some, unwrap_or, length};
+ghost use Rattle.std.specs.Prelude.{◌≡◌, ◌⊎◌, ◌+◌, ◌≤◌, ◌↔◌, ℕ, not, true, false, Some, None, Err, IsTrue, IsOk, IsSome, IsErrOf, IfErr, IfOk, OnOk, OnErr, MatchOption, is_some, unwrap_or, length};
 ghost use Rattle.std.specs.Option.{ForSome};
 ghost use Rattle.task_word.specs.Views.{most_handles, new_handle, one_out};
 ghost use Rattle.result_cell.specs.Cells.{AreNotesOf};
@@ -9,7 +9,7 @@ ghost use Rattle.executor_model.specs.declared.types.Event.TheVariants as v;
 ghost use Rattle.worker_pool.specs.Books.{IsBook};
 ghost use Rattle.worker_pool.specs.Shares.{known_to};
 ghost use Rattle.worker_pool.specs.Applies.{Applies, Tells};
-ghost use Rattle.worker_pool.specs.own.Shifts.{is_leave, is_stopped, ends_runs, Under, HasWork, IsQuiet, KeepsLimit, KeepsFault, Refuses, no_sleepers, Wakes, Starts, GetNothing, Decides, Finishes, Brings, Holds, Leads};
+ghost use Rattle.worker_pool.specs.own.Shifts.{is_leave, is_stopped, ends_run, ends_runs, Under, HasWork, IsQuiet, KeepsLimit, KeepsFault, Refuses, no_sleepers, Wakes, Starts, GetNothing, Decides, Finishes, Brings, Holds, Leads};
 
 use crate::applied::Work;
 use crate::book::Book;
@@ -101,8 +101,10 @@ impl<N: Named, A: Allocator> Shift<N, A> {
         }
     }
 
-    /// Who leads begins. Where some worker could not be made the run is refused for want of memory, and shows no moment.
-    pub fn begin(&mut self, made: bool)
+    /// Who leads begins. Where some worker could not be made the run is refused for want of memory, shows no moment, and the workers
+    /// that were made are to be woken.
+    pub fn begin(&mut self, made: bool) -> Option<WakeAll>
+        ensures ends { is_some result ≡ not made }
         ensures made { IsTrue made → seen self.new ≡ seen self.old }
         ensures unmade { made ≡ false
             → (self.new.stage ≡ Stage.Leaving)
@@ -110,9 +112,11 @@ impl<N: Named, A: Allocator> Shift<N, A> {
         ensures same { (self.new.book ≡ self.old.book) × (self.new.running ≡ self.old.running)
             × (self.new.sleepers ≡ self.old.sleepers) }
     {
-        if !made {
-            self.fail(PoolError::Memory);
+        if made {
+            return None;
         }
+        self.fail(PoolError::Memory);
+        Some(WakeAll::new())
     }
 
     /// Lets the workers of a run leave, once all is quiet.
@@ -299,16 +303,16 @@ impl<N: Named, A: HeapAllocator> Shift<N, A> {
         requires shared { (shared.now.table ≡ N.table) × (shared.now.cells ≡ N.cells) }
         requires quiet { IsQuiet (seen self.old) }
         ensures leads { Leads moment result (seen self.old) (seen self.new) }
-        ensures ends { (result ≡ Lead.Ends) ↔ IsSome self.new.fault }
+        ensures ends { ends_run result ≡ is_some self.new.fault }
         ensures limit { KeepsLimit (seen self.old) (seen self.new) }
         ensures fault { KeepsFault (seen self.old) (seen self.new) }
     {
         if self.fault.is_some() {
-            return Lead::Ends;
+            return Lead::Ends(WakeAll::new());
         }
         if let Err(fault) = self.book.apply(shared, Event::Clock(moment)) {
             self.fail(fault);
-            return Lead::Ends;
+            return Lead::Ends(WakeAll::new());
         }
         self.stage = Stage::Open;
         Lead::Moves(WakeWorker::new(self.wake()))

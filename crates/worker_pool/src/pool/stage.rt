@@ -42,8 +42,8 @@ pub enum Next {
 pub enum Lead {
     /// The clock moved. It wakes a worker where one is wanted; then it waits until all is quiet.
     Moves(WakeWorker),
-    /// The run is to end.
-    Ends,
+    /// The run is to end: it lets go of the lock, wakes all workers, and is done.
+    Ends(WakeAll),
 }
 
 /// What a clock from outside a run is answered, and whom it wakes.

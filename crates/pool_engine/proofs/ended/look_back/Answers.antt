@@ -3,7 +3,7 @@ use Rattle.std.proofs.lemmas.Bool.{false≢true}
 use Rattle.std.proofs.lemmas.List.Elements.{All-more}
 use Rattle.std.specs.Prelude.{slice_index_or}
 use Rattle.trace_check.specs.Laws.{FitsHappening}
-use Rattle.pool_engine.specs.PoolRuns.{IsBy, is_taken}
+use Rattle.pool_engine.specs.PoolRuns.{IsByPool, is_taken}
 use Rattle.pool_engine.proofs.Courses.{all_on, another_on, event_on, not_shown, other_on, run_on, shown_on}
 use Rattle.pool_engine.proofs.ended.look_back.Goals as goal
 use Rattle.pool_engine.proofs.ended.look_back.Goals.{in-Clock+in-Some, in-Clock+in-None, in-Start, in-Call}
@@ -20,7 +20,7 @@ loop-kept-preserved c =
     let next : happening ≡ slice_index_or happened i d = c.happening-happening.ensures ∙ c.kept-item.is in
     let so_far = here.invariant.shown in
     let fit = All-more FitsHappening happened i d low here.invariant.fit (subst FitsHappening next c.prove_fits.ensures) in
-    let by = all_on (IsBy c.args.workers) happened i d happening here.by_workers c.is_by.result low next here.invariant.by c.is_by.ensures in
+    let by = all_on (IsByPool c.args.workers) happened i d happening here.by_workers c.is_by.result low next here.invariant.by c.is_by.ensures in
     elim c.match-happening.branch [
       | in-Clock+in-Some w ↦ record {
         counted = w.events-is ∙ event_on happened i d happening here.events true low next here.invariant.counted (ap is_taken w.in-Clock.is);

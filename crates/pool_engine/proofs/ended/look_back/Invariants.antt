@@ -1,7 +1,7 @@
 use Rattle.std.proofs.Common.{◌≡◌, ◌≤◌, take}
 use Rattle.std.specs.Prelude.{All}
 use Rattle.trace_check.specs.Laws.{FitsHappening}
-use Rattle.pool_engine.specs.PoolRuns.{IsBy, clocks_of, event_count}
+use Rattle.pool_engine.specs.PoolRuns.{IsByPool, clocks_of, event_count}
 use Rattle.pool_engine.specs.own.Ended.{AllSoFar, ShowsSoFar}
 use Rattle.pool_engine.proofs.ended.look_back.Given as goal
 
@@ -11,6 +11,6 @@ invariant-loop-kept l = record {
   counted : l.events ≡ event_count (take l.kept-index l.happened);
   few : l.events ≤ l.kept-index;
   fit : All FitsHappening (take l.kept-index l.happened);
-  by : AllSoFar (IsBy l.workers) l.by_workers (take l.kept-index l.happened) l.happened;
+  by : AllSoFar (IsByPool l.workers) l.by_workers (take l.kept-index l.happened) l.happened;
   shown : ShowsSoFar l.shows (clocks_of (take l.kept-index l.happened)) l.left l.moments;
 }
