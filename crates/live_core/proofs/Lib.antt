@@ -12,6 +12,7 @@ pub mod Alive
 pub mod Living
 pub mod Filtered
 pub mod Compacted
+pub mod Paired
 pub mod Ranged
 pub mod Shedding
 pub mod Workers

@@ -1,8 +1,8 @@
 //! Which slot each number has.
-ghost use Rattle.std.specs.Prelude.{◌≡◌, ℕ, ◌+◌, ◌<◌, ◌≤◌, ◌++◌, [], ◌∷◌, length, take, drop, true, false, IfSome, IfNone, OnOk, OnErr};
+ghost use Rattle.std.specs.Prelude.{◌≡◌, ℕ, ◌+◌, ◌<◌, ◌≤◌, ◌++◌, [], ◌∷◌, length, take, drop, true, false, Some, slice_get, IfSome, IfNone, OnOk, OnErr};
 ghost use Rattle.std.specs.List.{filter};
 ghost use Rattle.live_core.specs.Said.{tasks_in};
-ghost use Rattle.live_core.specs.own.Slots.{IsBelow, HasEntry, HasNone, held_numbers, is_held};
+ghost use Rattle.live_core.specs.own.Slots.{IsBelow, HasEntry, HasNone, Rises, entries_of, held_numbers, is_held};
 
 use std::alloc::{AllocError, Allocator};
 use std::marker::Model;
@@ -10,30 +10,36 @@ use task_table::{Seat, TaskRef, TaskTable};
 
 /// The slots of tasks by their numbers. An entry whose slot holds another task by now, or none, is stale.
 ///
+/// The numbers stand in one list, and their slots beside them in another one: so an entry takes 12 bytes.
+///
 /// A contract sees it as its entries, which ascend by number, and how many it has room for.
 #[derive(Drop)]
 pub(crate) struct NumberIndex<A: Allocator> {
-    entries: Vec<TaskRef, A>,
+    numbers: Vec<u64, A>,
+    slots: Vec<u32, A>,
 }
 
 impl<A: Allocator> Model for NumberIndex<A> {
-    ghost use Rattle.std.specs.Prelude.{vec_capacity};
-    ghost use Rattle.live_core.specs.own.Slots.{IndexView, Ascends};
+    ghost use Rattle.std.specs.Prelude.{min, vec_capacity};
+    ghost use Rattle.live_core.specs.own.Slots.{IndexView, ArePaired, entries_of};
 
     ghost Value = { IndexView };
 
-    ghost view = { λ x. record { entries = x.entries.items; room = vec_capacity x.entries } };
+    ghost view = { λ x. record { entries = entries_of x.numbers.items x.slots.items; room = min (vec_capacity x.numbers) (vec_capacity x.slots) } };
 
-    ghost invariant = { λ x. Ascends x.entries.items };
+    ghost invariant = { λ x. ArePaired x.numbers.items x.slots.items };
 }
 
 impl<A: Allocator> NumberIndex<A> {
     /// An index of no task, without room.
     pub(crate) fn new(alloc: A) -> NumberIndex<A>
+    where
+        A: Copy,
         ensures { result.entries ≡ [] }
     {
         NumberIndex {
-            entries: Vec::new(alloc),
+            numbers: Vec::new(alloc),
+            slots: Vec::new(alloc),
         }
     }
 
@@ -42,21 +48,10 @@ impl<A: Allocator> NumberIndex<A> {
         ensures found { IfSome result (λ slot. HasEntry self.now.entries number slot) }
         ensures none { IfNone result (HasNone self.now.entries number) }
     {
-        let mut low = 0;
-        let mut high = self.entries.len();
-        while low < high {
-            let middle = low + (high - low) / 2;
-            let entry = self.entries[middle];
-            if entry.number == number {
-                return Some(entry.slot);
-            }
-            if entry.number < number {
-                low = middle + 1;
-            } else {
-                high = middle;
-            }
+        match place_of(&self.numbers, number) {
+            Some(place) => Some(self.slots[place]),
+            None => None,
         }
-        None
     }
 
     /// Drops the entries whose slot in this table holds another task by now, or none. At most so many tasks have a slot.
@@ -69,8 +64,9 @@ impl<A: Allocator> NumberIndex<A> {
             { entries = filter (is_held (held_numbers table.now.slots)) self.old.entries } }
         ensures few { length self.new.entries ≤ tasks_in table.now.slots }
     {
-        let kept = keep_held(&mut self.entries, table.seats(), tasks);
-        self.entries.truncate(kept);
+        let kept = keep_held(&mut self.numbers, &mut self.slots, table.seats(), tasks);
+        self.numbers.truncate(kept);
+        self.slots.truncate(kept);
     }
 
     /// Makes room for so many entries in all.
@@ -83,8 +79,9 @@ impl<A: Allocator> NumberIndex<A> {
         ensures grows { self.old.room ≤ self.new.room }
         ensures entries { self.new.entries ≡ self.old.entries }
     {
-        let more = entries.saturating_sub(self.entries.len());
-        self.entries.reserve(more)
+        let more = entries.saturating_sub(self.numbers.len());
+        self.numbers.reserve(more)?;
+        self.slots.reserve(more)
     }
 
     /// Whether there is no room for one more entry.
@@ -92,7 +89,8 @@ impl<A: Allocator> NumberIndex<A> {
         ensures room { result ≡ false → length self.now.entries < self.now.room }
         ensures full { result ≡ true → self.now.room ≤ length self.now.entries }
     {
-        self.entries.len() >= self.entries.capacity()
+        let entries = self.numbers.len();
+        entries >= self.numbers.capacity() || entries >= self.slots.capacity()
     }
 
     /// Adds the task of a number that is above all others.
@@ -102,40 +100,80 @@ impl<A: Allocator> NumberIndex<A> {
         ensures { self.new
             ≡ record { entries = self.old.entries ++ task ∷ []; room = self.old.room } }
     {
-        self.entries.push_reserved(task);
+        self.numbers.push_reserved(task.number);
+        self.slots.push_reserved(task.slot);
     }
 }
 
-/// Moves the entries whose slot holds their task to the front, in their order, and says how many there are: at most so many.
-fn keep_held(entries: &mut [TaskRef], slots: &[Option<Seat>], tasks: usize) -> usize
-    requires { length (filter (is_held (held_numbers slots.now)) entries.old) ≤ tasks }
-    ensures kept { take result entries.new ≡ filter (is_held (held_numbers slots.now)) entries.old }
-    ensures size { length entries.new ≡ length entries.old }
+/// Where a number stands among numbers that ascend, and `None` where it does not.
+fn place_of(numbers: &[u64], number: u64) -> Option<usize>
+    requires { Rises numbers.now }
+    ensures found { IfSome result (λ place. slice_get numbers.now place ≡ Some number) }
+    ensures none { IfNone result ((i : ℕ) → slice_get numbers.now i ≡ Some number → ⊥) }
 {
-    let from = gather_held(entries, slots, tasks);
-    let kept = entries.len() - from;
-    entries.copy_within(from.., 0);
+    let mut low = 0;
+    let mut high = numbers.len();
+    while low < high {
+        let middle = low + (high - low) / 2;
+        let here = numbers[middle];
+        if here == number {
+            return Some(middle);
+        }
+        if here < number {
+            low = middle + 1;
+        } else {
+            high = middle;
+        }
+    }
+    None
+}
+
+/// Moves the entries whose slot holds their task to the front, in their order, and says how many there are: at most so many.
+fn keep_held(numbers: &mut [u64], slots: &mut [u32], seats: &[Option<Seat>], tasks: usize) -> usize
+    requires pairs { length numbers.old ≡ length slots.old }
+    requires few { length (filter (is_held (held_numbers seats.now)) (entries_of numbers.old slots.old))
+        ≤ tasks }
+    ensures kept { take result (entries_of numbers.new slots.new)
+        ≡ filter (is_held (held_numbers seats.now)) (entries_of numbers.old slots.old) }
+    ensures numbers { length numbers.new ≡ length numbers.old }
+    ensures slots { length slots.new ≡ length slots.old }
+{
+    let from = gather_held(numbers, slots, seats, tasks);
+    let kept = numbers.len() - from;
+    numbers.copy_within(from.., 0);
+    slots.copy_within(from.., 0);
     kept
 }
 
 /// Moves them to the end, and says from where on they stand. The newest ones come first: once all are found, the older ones, which
 /// are stale, are not looked at.
-fn gather_held(entries: &mut [TaskRef], slots: &[Option<Seat>], tasks: usize) -> usize
-    requires { length (filter (is_held (held_numbers slots.now)) entries.old) ≤ tasks }
-    ensures held { drop result entries.new ≡ filter (is_held (held_numbers slots.now)) entries.old }
-    ensures within { result ≤ length entries.new }
-    ensures size { length entries.new ≡ length entries.old }
+fn gather_held(
+    numbers: &mut [u64],
+    slots: &mut [u32],
+    seats: &[Option<Seat>],
+    tasks: usize,
+) -> usize
+    requires pairs { length numbers.old ≡ length slots.old }
+    requires few { length (filter (is_held (held_numbers seats.now)) (entries_of numbers.old slots.old))
+        ≤ tasks }
+    ensures held { drop result (entries_of numbers.new slots.new)
+        ≡ filter (is_held (held_numbers seats.now)) (entries_of numbers.old slots.old) }
+    ensures within { result ≤ length numbers.new }
+    ensures numbers { length numbers.new ≡ length numbers.old }
+    ensures slots { length slots.new ≡ length slots.old }
 {
-    let all = entries.len();
+    let all = numbers.len();
     let first = all.saturating_sub(tasks);
     let mut from = all;
     let mut i = all;
     while i > 0 {
         i -= 1;
-        let entry = entries[i];
-        if is_held_in(slots, entry) {
+        let number = numbers[i];
+        let slot = slots[i];
+        if is_held_in(seats, TaskRef { number, slot }) {
             from -= 1;
-            entries[from] = entry;
+            numbers[from] = number;
+            slots[from] = slot;
             if from == first {
                 return from;
             }

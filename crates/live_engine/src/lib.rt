@@ -23,8 +23,9 @@
 //! 1, .. in the order of their lines, whether they are accepted or not. An event `cancel K` whose number was not given out yet
 //! is answered `error no task`, and cancels no task, also none that is given that number later.
 //!
-//! Each call is noted in the journal that is handed in. A plan may make those that are noted in an empty one, also where the run ends
-//! at an error, and the text that `call_journal::plan_text` prints of them makes exactly these: [`noted_calls_may_be_planned`].
+//! Each call that is made is noted in the journal that is handed in, which keeps the first 65,536 of them where they are wanted. A
+//! plan may make those that are noted in an empty one, also where the run ends at an error, and the text that
+//! `call_journal::plan_text` prints of them makes exactly these: [`noted_calls_may_be_planned`].
 //!
 //! # Errors
 //!

@@ -5,4 +5,5 @@ pub mod PlanCalls
 pub mod PlanCode
 pub mod Submissions
 pub mod SubmissionLaws
+pub mod MigrationLaws
 pub mod own

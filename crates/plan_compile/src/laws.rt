@@ -7,6 +7,7 @@ ghost use Rattle.plan_read.specs.Migrating.{migrated, in_nanoseconds};
 ghost use Rattle.plan_read.specs.Texts.{TextWrites, longest_text};
 ghost use Rattle.plan_read.specs.Writes.{TreeWritesIn};
 ghost use Rattle.plan_read.specs.declared.versions.Version.TheVariants.{One, Two};
+ghost use Rattle.plan_compile.specs.MigrationLaws.{MigratedTextsCallTheSame};
 ghost use Rattle.plan_compile.specs.PlanCalls.{calls_of_plan};
 ghost use Rattle.plan_compile.specs.SubmissionLaws.{AreThoseOfTheCalls, AreNumberedInOrder, AreNamedAsWritten};
 
@@ -31,6 +32,14 @@ pub fn migrated_trees_call_the_same()
     ensures { (ms : Members) (plan : PlanTree) → TreeWritesIn One ms plan
         → (other : PlanTree) × TreeWritesIn Two (migrated ms) other
         × (calls_of_plan other ≡ calls_of_plan plan) }
+{
+    migrated_trees_write();
+    units_make_no_calls();
+}
+
+/// A text of version 1 and the text to which [`migrate`](plan_read::migrate) migrates it write plans that make the same calls.
+pub fn migrated_texts_call_the_same()
+    ensures { MigratedTextsCallTheSame }
 {
     migrated_trees_write();
     units_make_no_calls();

@@ -78,9 +78,9 @@ mod submissions;
 pub use compiling::compile;
 pub use fault::CompileFault;
 pub use laws::{
-    calls_are_in_order, compile_fault_equality_tells, limits_agree, migrated_trees_call_the_same,
-    submissions_are_named_as_written, submissions_are_numbered_in_order,
-    submissions_are_those_of_the_calls, units_make_no_calls,
+    calls_are_in_order, compile_fault_equality_tells, limits_agree, migrated_texts_call_the_same,
+    migrated_trees_call_the_same, submissions_are_named_as_written,
+    submissions_are_numbered_in_order, submissions_are_those_of_the_calls, units_make_no_calls,
 };
 pub use names::names_of_tasks;
 pub use submission::Submission;

@@ -11,6 +11,9 @@ use crate::entry::Entry;
 use crate::rank::Rank;
 use std::alloc::Allocator;
 
+/// So many entries are more than the processor's cache holds.
+const MANY: usize = 1 << 17;
+
 /// Where the entry of a slot stands, or `None` where it has none.
 pub(crate) fn place_of<R: Rank>(heap: &[Entry<R>], places: &[u32], slot: u32) -> Option<usize>
     ensures found { IfSome result
@@ -103,10 +106,25 @@ fn is_lesser<R: Rank>(heap: &[Entry<R>], one: usize, other: usize) -> bool
     R::is_before(at(heap, one), at(heap, other))
 }
 
-/// The place of the least of the four entries right below the hole. It is added up from the comparisons, so that there is no branch
-/// to guess.
+/// The place of the least of the four entries right below the hole. In a heap that the processor's cache holds it is added up from
+/// the comparisons, so that there is no branch to guess. In a larger one a branch is better, since the processor goes on by its guess
+/// and reads further entries before these have come.
 #[inline(always)]
 fn least_of_four<R: Rank>(heap: &[Entry<R>], hole: usize) -> usize
+    requires four { 4 * hole + 4 < length heap.now }
+    requires few { length heap.now < 2 ^ 32 }
+    ensures { IsLeastBelow (seen_all R.rank heap.now) hole result }
+{
+    if heap.len() < MANY {
+        least_of_pairs(heap, hole)
+    } else {
+        least_before(heap, hole, 4 * hole + 5)
+    }
+}
+
+/// The place of the least of the four entries right below the hole, as the lesser one of the lesser ones of two pairs.
+#[inline(always)]
+fn least_of_pairs<R: Rank>(heap: &[Entry<R>], hole: usize) -> usize
     requires four { 4 * hole + 4 < length heap.now }
     requires few { length heap.now < 2 ^ 32 }
     ensures { IsLeastBelow (seen_all R.rank heap.now) hole result }
@@ -120,16 +138,19 @@ fn least_of_four<R: Rank>(heap: &[Entry<R>], hole: usize) -> usize
     first + 2 * usize::from(is_high) + usize::from(is_high & is_fourth | !is_high & is_second)
 }
 
-/// The place of the least of the entries right below the hole, which are the last ones.
-fn least_of_last<R: Rank>(heap: &[Entry<R>], hole: usize) -> usize
-    requires some { 4 * hole + 1 < length heap.now }
-    requires last { length heap.now ≤ 4 * hole + 4 }
+/// The place of the least of the entries right below the hole, all of which stand before the place `end`.
+#[inline(always)]
+fn least_before<R: Rank>(heap: &[Entry<R>], hole: usize, end: usize) -> usize
+    requires some { 4 * hole + 1 < end }
+    requires few_below { end ≤ 4 * hole + 5 }
+    requires inside { end ≤ length heap.now }
     requires few { length heap.now < 2 ^ 32 }
+    requires all { (k : ℕ) → 0 < k → k < length heap.now → parent k ≡ hole → k < end }
     ensures { IsLeastBelow (seen_all R.rank heap.now) hole result }
 {
     let first = 4 * hole + 1;
     let mut least = first;
-    for place in first + 1..heap.len() {
+    for place in first + 1..end {
         if is_lesser(heap, place, least) {
             least = place;
         }
@@ -162,7 +183,7 @@ fn sink<R: Rank>(heap: &mut [Entry<R>], places: &mut [u32], mut hole: usize) -> 
     }
     let first = 4 * hole + 1;
     if first < heap.len() {
-        let least = least_of_last(heap, hole);
+        let least = least_before(heap, hole, heap.len());
         let entry = at(heap, least);
         put(heap, places, hole, entry);
         touches += (heap.len() - first) as u64;

@@ -65,7 +65,7 @@
 //! A queue made for n slots takes for each of them 20 bytes, and 28 with a `u64` as rank: an entry, and 4 bytes for its
 //! place in a heap, each of whose entries has four below it. How much more a queue has that grew, its lists decide. With n
 //! entries, `insert`, `poll` and `remove` compare two entries or move one at most `4 d + 2` times, where d is the number of
-//! binary digits of n: the contracts of these calls state the bound, and [`touched`](SlotQueue::touched) counts. All other
+//! binary digits of n: [`touched`](SlotQueue::touched) counts these, and contracts state the bound of what each call adds. All other
 //! calls take constant time, but for `new` and `reserve`, which go over the places.
 //!
 //! # Tests

@@ -72,8 +72,8 @@ impl<R: Rank, A: Allocator> SlotQueue<R, A> {
 
     /// Makes room for the slots from 0 to `slots - 1`. The entries stay. Where there is room for so many, nothing changes.
     ///
-    /// Where it takes memory, it is for twice as many slots as before, if that is more, so that a queue that grows slot by
-    /// slot takes memory seldom.
+    /// Where it takes memory, its lists take some for twice as many slots as before, if that is more, so that a queue that grows
+    /// slot by slot takes memory seldom. No contract tells so.
     ///
     /// # Errors
     ///
@@ -206,8 +206,8 @@ impl<R: Rank, A: Allocator> SlotQueue<R, A> {
         self.len() == 0
     }
 
-    /// How often the calls so far compared two entries, or changed the index of an entry that stays. It stays at
-    /// [`u64::MAX`].
+    /// How many touches the calls so far counted: each comparison of two entries, and each change of the place of an entry that
+    /// stays. It stays at [`u64::MAX`]. Contracts bound what each call adds, and tests see that it counts what is done.
     pub fn touched(&self) -> u64
         ensures { result ≡ self.now.touched }
     {

@@ -1,5 +1,5 @@
 //! What stands between entries that are due at one moment.
-ghost use Rattle.std.specs.Prelude.{◌≡◌, ℕ};
+ghost use Rattle.std.specs.Prelude.{◌≡◌, ℕ, ◌+◌, ◌*◌, ◌^◌, ◌||◌, ◌&&◌, ◌==◌, nat_lt};
 ghost use Rattle.slot_queue.specs.Entries.{seen, is_before};
 
 use crate::entry::Entry;
@@ -27,11 +27,16 @@ impl Rank for NoRank {
     fn is_before(one: Entry<NoRank>, other: Entry<NoRank>) -> bool
         ensures { result ≡ is_before (seen (λ _. 0) one) (seen (λ _. 0) other) }
     {
-        if one.due != other.due {
-            return one.due < other.due;
-        }
-        one.slot < other.slot
+        place_in_line(one) < place_in_line(other)
     }
+}
+
+/// The due moment of an entry without a rank, and behind it its slot, as one number: so both are compared at once.
+#[inline(always)]
+fn place_in_line(entry: Entry<NoRank>) -> u128
+    ensures { result ≡ entry.due * 2 ^ 64 + entry.slot }
+{
+    u128::from(entry.due) * (1 << 64) + u128::from(entry.slot)
 }
 
 /// A number: the lower one leaves first.
@@ -44,6 +49,17 @@ impl Rank for u64 {
         if one.due != other.due {
             return one.due < other.due;
         }
-        one.rank < other.rank || (one.rank == other.rank && one.slot < other.slot)
+        is_before_at_one_moment(one.rank, one.slot, other.rank, other.slot)
     }
+}
+
+/// Whether the first of two entries comes before the second where both are due at one moment. That is seldom asked, so it stands
+/// apart: a comparison of two moments is then all that is done for most entries.
+#[cold]
+#[inline(never)]
+fn is_before_at_one_moment(rank: u64, slot: u32, other_rank: u64, other_slot: u32) -> bool
+    ensures { result
+        ≡ (nat_lt rank other_rank || ((rank == other_rank) && nat_lt slot other_slot)) }
+{
+    rank < other_rank || (rank == other_rank && slot < other_slot)
 }

@@ -67,7 +67,7 @@
 //! # Memory and cost
 //!
 //! A `TaskTable` takes memory for each slot (what it holds, and an entry in each of two queues) and for each worker, and only in `new`
-//! and `reserve`. A call that admits, starts, finishes, cancels, drops or ends a task takes the time of a change of a binary heap. A
+//! and `reserve`. A call that admits, starts, finishes, cancels, drops or ends a task takes the time of a change of a heap. A
 //! sweep goes over all slots, and sorts the tasks that it ends; `ask` goes over the workers; `reserve` may move all slots. All
 //! other calls take constant time.
 #![tactic(auto)]

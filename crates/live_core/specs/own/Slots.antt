@@ -1,6 +1,6 @@
 -- Which slots are empty, and which slot the task of a number has. No contract of a public call cites it but through the invariant of
 -- the executor. All of it is this project's rule.
-use Rattle.std.specs.Prelude.{◌≡◌, ℕ, ◌+◌, ◌<◌, ◌≤◌, ◌==◌, Bool, true, false, List, [], ◌∷◌, length, map, Option, Some, None, slice_get, slice_index_or, is_some}
+use Rattle.std.specs.Prelude.{◌≡◌, ℕ, ◌+◌, ◌<◌, ◌==◌, Bool, true, false, List, [], ◌∷◌, length, map, Option, Some, None, slice_get, slice_index_or, is_some}
 use Rattle.std.specs.Option.{option_map, option_map_or}
 use Rattle.std.specs.List.{list_any}
 use Rattle.queue_code.specs.Calls.{how_many}
@@ -52,13 +52,24 @@ pub record AreEmpty (held : List (Option ℕ)) (free : List ℕ) : Type 0 where
 abbrev pub Ascends : List TaskRef → Type 0
 Ascends entries = (i j : ℕ) (x y : TaskRef) → i < j → slice_get entries i ≡ Some x → slice_get entries j ≡ Some y → x.number < y.number
 
+-- the entries of an index that is kept as two lists: each number with the slot beside it
+abbrev pub entries_of : List ℕ → List ℕ → List TaskRef
+entries_of [] slots = []
+entries_of (number ∷ numbers) [] = []
+entries_of (number ∷ numbers) (slot ∷ slots) = record { number = number; slot = slot } ∷ entries_of numbers slots
+
+-- each number in a list is above those before it
+abbrev pub Rises : List ℕ → Type 0
+Rises numbers = (i j x y : ℕ) → i < j → slice_get numbers i ≡ Some x → slice_get numbers j ≡ Some y → x < y
+
+-- two lists are kept as an index: each number has a slot beside it, and the numbers ascend
+pub record ArePaired (numbers slots : List ℕ) : Type 0 where
+  pub size : length numbers ≡ length slots
+  pub ascending : Rises numbers
+
 -- each entry before a place is below a number
 abbrev pub IsBelow : List TaskRef → ℕ → ℕ → Type 0
 IsBelow entries place number = (i : ℕ) (x : TaskRef) → i < place → slice_get entries i ≡ Some x → x.number < number
-
--- each entry from a place on is above a number
-abbrev pub IsAbove : List TaskRef → ℕ → ℕ → Type 0
-IsAbove entries place number = (i : ℕ) (x : TaskRef) → place ≤ i → slice_get entries i ≡ Some x → number < x.number
 
 -- an entry of an index says that the task of this number has this slot
 abbrev pub HasEntry : List TaskRef → ℕ → ℕ → Type 0

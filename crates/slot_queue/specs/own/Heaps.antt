@@ -59,7 +59,8 @@ pub record IsLeastBelow (heap : List Seen) (place low : ℕ) : Type 0 where
   pub parent_is : parent low ≡ place
   pub least : IsAboveChildren heap place (entry_at heap low)
 
--- how far a place is from the first one: at least two more than the place above it
+-- A number that grows from each place to those below it by 2 at least, so that as many moves down are bounded by it: how many
+-- binary digits three times the place and one more have.
 abbrev pub level : ℕ → ℕ
 level place = binary_digits (3 * place + 1)
 

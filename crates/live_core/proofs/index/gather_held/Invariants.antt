@@ -1,10 +1,10 @@
 -- The entries that are not stale come to the end.
 use Rattle.live_core.specs.own.Slots.{held_numbers, is_held}
-use Rattle.live_core.proofs.Compacted.{Compacts}
+use Rattle.live_core.proofs.Paired.{PairsCompact}
 use Rattle.live_core.proofs.index.gather_held.Given as goal
 
 abbrev pub invariant-loop-i : goal.invariant-loop-i
-invariant-loop-i l = Compacts (is_held (held_numbers l.slots)) l.fn.entries l.entries l.from l.i
+invariant-loop-i l = PairsCompact (is_held (held_numbers l.seats)) l.fn.numbers l.fn.slots l.numbers l.slots l.from l.i
 
 abbrev pub decreases-loop-i : goal.decreases-loop-i
 decreases-loop-i l = l.i

@@ -49,7 +49,7 @@ put-requires-then-first-heap-clause-known g c =
     let rank = g.R.Rank.rank in
     let h = seen_all rank c.loop-hole.heap in
     let all = seen_long rank c.loop-hole.heap in
-    let least = c.least_of_last-least in
+    let least = c.least_before-least in
     let x = c.requires.placed.0 in
     let begun : c.args.hole < length (seen_all rank c.args.heap.now) = omega (arith, c.requires.inside, seen_long rank c.args.heap.now) in
     let w = c.loop-hole.invariant.moves.placed x begun c.requires.placed.1 in
@@ -64,7 +64,7 @@ returns-then-first-heap-clause-moves g c =
     let h = seen_all rank c.loop-hole.heap in
     let i = c.loop-hole.hole in
     let put = c.put-then-first-heap in
-    let least = c.least_of_last-least in
+    let least = c.least_before-least in
     let begun : c.args.hole < length begin = omega (arith, c.requires.inside, seen_long rank c.args.heap.now) in
     moves_on begin c.args.places.now c.args.hole h c.loop-hole.places i least.result (seen_all rank put.new.heap) put.new.places c.loop-hole.invariant.moves begun
     least.ensures.inside (λ same. omega (arith, same, least.ensures.parent_is, least.ensures.below)) (put.ensures.heap ∙ ap (λ (e : Seen). set h i e) c.at-entry-then-first-heap.ensures)
@@ -75,7 +75,7 @@ returns-then-first-heap-clause-around g c =
     let rank = g.R.Rank.rank in
     let h = seen_all rank c.loop-hole.heap in
     let i = c.loop-hole.hole in
-    let least = c.least_of_last-least in
+    let least = c.least_before-least in
     subst (λ (l : List Seen). IsHeapAround l least.result) (sym (c.put-then-first-heap.ensures.heap ∙ ap (λ (e : Seen). set h i e) c.at-entry-then-first-heap.ensures))
     (around_down h i least.result least.ensures.inside least.ensures.below least.ensures.parent_is c.loop-hole.invariant.around least.ensures.least)
 
@@ -86,5 +86,5 @@ returns-then-first-heap-clause-few g c =
       c.loop-hole.invariant.count,
       c.loop-hole-test.false,
       c.put-then-first-heap.ensures.heap_length,
-      level_below c.least_of_last-least.result c.loop-hole.hole c.least_of_last-least.ensures.below c.least_of_last-least.ensures.parent_is,
+      level_below c.least_before-least.result c.loop-hole.hole c.least_before-least.ensures.below c.least_before-least.ensures.parent_is,
     )

@@ -2,7 +2,7 @@
 use Rattle.std.proofs.Common.{ℕ, ◌<◌, ◌≤◌}
 use Rattle.slot_queue.specs.Entries.{seen_all}
 use Rattle.slot_queue.specs.own.Heaps.{entry_at, IsInHeapOrder}
-use Rattle.slot_queue.proofs.heap.least_of_last.Given as goal
+use Rattle.slot_queue.proofs.heap.least_before.Given as goal
 
 abbrev pub invariant-loop-place : goal.invariant-loop-place
 invariant-loop-place g l =

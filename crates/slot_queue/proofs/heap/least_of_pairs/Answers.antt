@@ -8,7 +8,7 @@ use Rattle.slot_queue.specs.own.Heaps.{entry_at, IsInHeapOrder}
 use Rattle.slot_queue.proofs.Order.{ordered_self, ordered_through}
 use Rattle.slot_queue.proofs.Holes.{above_four}
 use Rattle.slot_queue.proofs.Lookups.{seen_long}
-use Rattle.slot_queue.proofs.heap.least_of_four.Goals as goal
+use Rattle.slot_queue.proofs.heap.least_of_pairs.Goals as goal
 
 -- the entry at one place is not after the one at another
 abbrev IsNotAfter : List Seen → ℕ → ℕ → Type 0

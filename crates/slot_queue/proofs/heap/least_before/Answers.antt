@@ -3,9 +3,10 @@ use Rattle.std.proofs.Common.{◌≡◌, ◌≢◌, ⊎_elim, ℕ, ◌+◌, ◌*
 use Rattle.std.proofs.lemmas.Bool.{cases_eq}
 use Rattle.slot_queue.specs.Entries.{Seen, seen_all}
 use Rattle.slot_queue.specs.own.Heaps.{entry_at, IsInHeapOrder}
+use Rattle.slot_queue.proofs.Lookups.{seen_long}
 use Rattle.slot_queue.proofs.Order.{ordered_self, ordered_through}
-use Rattle.slot_queue.proofs.heap.least_of_last.Goals as goal
-use Rattle.slot_queue.proofs.heap.least_of_last.Goals.{then-is_lesser, else-is_lesser}
+use Rattle.slot_queue.proofs.heap.least_before.Goals as goal
+use Rattle.slot_queue.proofs.heap.least_before.Goals.{then-is_lesser, else-is_lesser}
 
 -- no entry from one place to another comes before this one
 abbrev IsLeastTo : List Seen → ℕ → ℕ → Seen → Type 0
@@ -44,3 +45,15 @@ loop-place-preserved g c =
             least = at c.if-is_lesser.least c.loop-place.least w.least-is (one_further h first place (entry_at h c.loop-place.least) kept.least (c.is_lesser.ensures.no w.if-is_lesser.false));
           }
     ]
+
+pub returns : goal.returns
+returns g c =
+    let kept = c.loop-place.invariant in
+    let all = seen_long g.R.Rank.rank c.args.heap.now in
+    record {
+      inside = omega (arith, all, kept.to, c.loop-place-test.false, c.loop-place.auto.place-end, c.requires.inside);
+      below = omega (arith, kept.from);
+      parent_is = omega (arith, kept.from, kept.to, c.loop-place-test.false, c.loop-place.auto.place-end, c.requires.few_below);
+      least = λ k positive inside is. kept.least k (omega (arith, positive, is))
+          (omega (arith, c.requires.all k positive (omega (arith, inside, all)) is, c.loop-place-test.false, c.loop-place.auto.place-end));
+    }
