@@ -43,8 +43,8 @@ executor_calls calls = numbered_calls 0 calls
 
 -- ---- the plan
 
--- A plan may make these calls: they are as few, and in the order, that a plan's calls have, and the spans of each are in the ranges
--- that its line has.
+-- A plan may make these calls: as those of the executor they are few enough and in order, and the spans of each are in the ranges
+-- that a line of it has.
 abbrev pub MayBePlanned : List MadeCall → Type 0
 MayBePlanned calls = IsPlanned (executor_calls calls) × AllByRecursion (λ (c : MadeCall). FitsCall c.call) calls
 

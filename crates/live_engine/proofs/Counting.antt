@@ -11,14 +11,14 @@ use Rattle.live_engine.specs.declared.engine.Turn.TheVariants as t
 use Rattle.live_engine.specs.declared.opening.OpenError.{OpenError}
 use Rattle.live_engine.specs.declared.opening.OpenError.TheVariants as o
 use Rattle.live_engine.specs.declared.report.LiveReport.{LiveReport}
-use Rattle.live_engine.specs.LiveRuns.{IsIdle, LiveEnds, Ran, RefusesToRun, told_of_opening}
+use Rattle.live_engine.specs.LiveRuns.{ChangesNothing, LiveEnds, Ran, RefusesToRun, told_of_opening}
 
 -- nothing was read or written
 kept : (o : Option (List ℕ)) → Keeps o o
 kept None = tt
 kept (Some xs) = refl
 
-pub idle : (ends : LiveEnds) → IsIdle ends ends
+pub idle : (ends : LiveEnds) → ChangesNothing ends ends
 idle ends = ((kept ends.left, kept ends.contents), refl)
 
 -- a run that did not begin

@@ -125,8 +125,8 @@ Runs (Err s.Memory) workers old new = Taken workers old.left new.left old.journa
     (Writes old new (λ _ _. Unit {0}))
 
 -- nothing was read, written or noted
-abbrev pub IsIdle : LiveEnds → LiveEnds → Type 0
-IsIdle old new = IsUntouched old.left new.left old.contents new.contents × (new.journal ≡ old.journal)
+abbrev pub ChangesNothing : LiveEnds → LiveEnds → Type 0
+ChangesNothing old new = IsUntouched old.left new.left old.contents new.contents × (new.journal ≡ old.journal)
 
 -- why a run does not begin: the workers are not 1 to 64, or else memory was refused
 abbrev pub RefusesToRun : OpenError → ℕ → Type 0
@@ -145,10 +145,10 @@ Begins result workers old new = IsWorkerCount workers × Runs result workers old
 -- what a run did, by what its caller is told: it did not begin, or it ran over the lines of its input
 abbrev pub Ran : Result LiveReport RunError → ℕ → LiveEnds → LiveEnds → Type 0
 Ran (Ok report) workers old new = Begins (Ok report) workers old new
-Ran (Err x.Workers) workers old new = RefusesToRun o.Workers workers × IsIdle old new
+Ran (Err x.Workers) workers old new = RefusesToRun o.Workers workers × ChangesNothing old new
 Ran (Err (x.EventLine n)) workers old new = Begins (Err (s.EventLine n)) workers old new
 Ran (Err x.Full) workers old new = Begins (Err s.Full) workers old new
 Ran (Err x.Read) workers old new = Begins (Err s.Read) workers old new
 Ran (Err x.Write) workers old new = Begins (Err s.Write) workers old new
-Ran (Err x.Memory) workers old new = (RefusesToRun o.Memory workers × IsIdle old new) ⊎ Begins (Err s.Memory) workers old new
+Ran (Err x.Memory) workers old new = (RefusesToRun o.Memory workers × ChangesNothing old new) ⊎ Begins (Err s.Memory) workers old new
 Ran (Err _) workers old new = ⊥

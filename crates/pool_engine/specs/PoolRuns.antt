@@ -49,8 +49,8 @@ abbrev pub IsAtRest : List Planned → ℕ → List HistoryEntry → Type 0
 IsAtRest calls workers past = IsRipe calls (view_of_state calls (after calls workers (happenings past))) → ⊥
 
 -- no run is under way once a history has happened: no worker has a task
-abbrev pub IsIdle : List Planned → ℕ → List HistoryEntry → Type 0
-IsIdle calls workers past = (worker : ℕ) → (after calls workers (happenings past)).workers worker ≡ None
+abbrev pub IsIdleAfter : List Planned → ℕ → List HistoryEntry → Type 0
+IsIdleAfter calls workers past = (worker : ℕ) → (after calls workers (happenings past)).workers worker ≡ None
 
 -- what happens is by a pool of so many workers to which no handle is out: a start or a finish is by one of them, and nothing is a
 -- cancel from outside
@@ -74,7 +74,7 @@ pub record RunsToRest (calls : List Planned) (workers limit : ℕ) (moments : Li
   pub clocks : clocks_of (happened_in past) ≡ moments
   pub by : All (IsByPool workers) (happenings past)
   pub rests : IsAtRest calls workers past
-  pub idle : IsIdle calls workers past
+  pub idle : IsIdleAfter calls workers past
   pub within : event_count (happened_in past) ≤ limit
 
 -- a history is one that the calls allow, with clocks that are the first of the input, and all else by a pool of the workers, and

@@ -22,7 +22,7 @@ pub struct Told {
     /// Whether they show all of them.
     pub shows_all: bool,
     /// Whether each start and each finish is by one of the workers, and nothing is a cancel from outside.
-    pub by_workers: bool,
+    pub by_pool: bool,
 }
 
 /// What some happenings tell, the oldest first, where the input has these moments, and there are so many workers.
@@ -30,7 +30,7 @@ pub fn look_back(happened: &[KeptHappening], moments: &[u64], workers: u8) -> To
     ensures events { result.events ≡ event_count happened.now }
     ensures first { IsTrue result.shows_first ↔ AreFirstOf (clocks_of happened.now) moments.now }
     ensures shows { IsTrue result.shows_all ↔ (clocks_of happened.now ≡ moments.now) }
-    ensures by { IsTrue result.by_workers ↔ All (IsByPool workers) happened.now }
+    ensures by { IsTrue result.by_pool ↔ All (IsByPool workers) happened.now }
     ensures fit { All FitsHappening happened.now }
     ensures short { length happened.now ≤ 2 ^ 64 }
 {
@@ -38,11 +38,11 @@ pub fn look_back(happened: &[KeptHappening], moments: &[u64], workers: u8) -> To
     let mut events = 0;
     let mut left = moments;
     let mut shows = true;
-    let mut by_workers = true;
+    let mut by_pool = true;
     for kept in happened {
         let happening = kept.happening();
         prove_fits(happening);
-        by_workers &= is_by(happening, workers);
+        by_pool &= is_by_pool(happening, workers);
         match happening {
             Happening::Clock(moment) => {
                 events += 1;
@@ -59,7 +59,7 @@ pub fn look_back(happened: &[KeptHappening], moments: &[u64], workers: u8) -> To
         events,
         shows_first: shows,
         shows_all: shows && left.is_empty(),
-        by_workers,
+        by_pool,
     }
 }
 
@@ -76,7 +76,7 @@ fn left_behind(moment: u64, moments: &[u64]) -> Option<&[u64]>
 }
 
 /// Whether what happens is by a pool of so many workers to which no handle is out: no cancel from outside is.
-fn is_by(happening: Happening, workers: u8) -> bool
+fn is_by_pool(happening: Happening, workers: u8) -> bool
     ensures { IsTrue result ↔ IsByPool workers happening }
 {
     match happening {

@@ -170,7 +170,7 @@ fn write_rested<N: Named, A: Allocator, W: Sink>(
         × (event_count book.now.happened ≤ asked.now.limit)) }
 {
     let told = look_back(book.happenings(), asked.moments, book.workers());
-    if !told.shows_all || !told.by_workers || told.events > asked.limit as usize {
+    if !told.shows_all || !told.by_pool || told.events > asked.limit as usize {
         return Err(LastError::Lost);
     }
     if book.ripe() || !book.is_idle() {
@@ -208,7 +208,7 @@ fn write_full<N: Named, A: Allocator, W: Sink>(
         ↔ ¬ IsFilled book.now asked.now.limit asked.now.moments.now }
 {
     let told = look_back(book.happenings(), asked.moments, book.workers());
-    if !told.shows_first || !told.by_workers || told.events != asked.limit as usize {
+    if !told.shows_first || !told.by_pool || told.events != asked.limit as usize {
         return Err(LastError::Lost);
     }
     if !write_lines(draft, book.lines(), writer) {

@@ -123,8 +123,8 @@ pub record Applies (old new : BookView) (event : Event) : Type 0 where
   pub out : new.seat.out ≡ old.seat.out
   -- one event more was taken
   pub taken : new.core.taken ≡ old.core.taken + 1
-  -- a note came alone where there was none, and of the task alone of which the event's answer says that it is done, or failed; it
-  -- knows the ending that the answer tells
+  -- the note of each task is as it was, or it is new: there was none, the event's answer says that this task is done, or failed, and
+  -- the note knows the ending that the answer tells
   pub notes : (k : ℕ) → (slice_index_or new.notes k None ≡ slice_index_or old.notes k None) ⊎ ((slice_index_or old.notes k None ≡ None) × KnowsEnding new.notes k (ending_in k last.answer))
   -- that task has its note then: the verdict that stands in its cell is the event's. Else its cell held one before, and the book is
   -- forestalled, which nothing else makes it

@@ -10,8 +10,9 @@
 //! What a thread does in one hold of the lock is a function over what lies there: `Shift::hold` for a worker, `Shift::lead` for
 //! who leads, and `Shift::advance`. Its clauses say what it leaves there, and its answer says what the thread does once it lets
 //! go, or sleeps: the job that it does, whether it leaves, and whom it wakes. The functions of this page only call these, and do
-//! what they answer. Whom to wake can't be left out: it is a value that can be neither copied nor let go, and a call of `Hall`
-//! alone takes it, which wakes. And who leads shows a moment, and lets all leave, only where it is proved that all is quiet.
+//! what they answer. Whom to wake can't be forgotten: it is a value that can be neither copied nor let go, and a call of `Hall`
+//! alone takes it. That this call wakes is seen in its body, and no contract says so. By `Shift::lead` a moment is shown, and by
+//! `Shift::leave` all are let go, only where it is proved that all is quiet.
 //!
 //! | Who | Waits for | Where | Is woken by |
 //! |---|---|---|---|

@@ -20,7 +20,7 @@ loop-kept-preserved c =
     let next : happening ≡ slice_index_or happened i d = c.happening-happening.ensures ∙ c.kept-item.is in
     let so_far = here.invariant.shown in
     let fit = All-more FitsHappening happened i d low here.invariant.fit (subst FitsHappening next c.prove_fits.ensures) in
-    let by = all_on (IsByPool c.args.workers) happened i d happening here.by_workers c.is_by.result low next here.invariant.by c.is_by.ensures in
+    let by = all_on (IsByPool c.args.workers) happened i d happening here.by_pool c.is_by_pool.result low next here.invariant.by c.is_by_pool.ensures in
     elim c.match-happening.branch [
       | in-Clock+in-Some w ↦ record {
         counted = w.events-is ∙ event_on happened i d happening here.events true low next here.invariant.counted (ap is_taken w.in-Clock.is);

@@ -11,6 +11,6 @@ invariant-loop-kept l = record {
   counted : l.events ≡ event_count (take l.kept-index l.happened);
   few : l.events ≤ l.kept-index;
   fit : All FitsHappening (take l.kept-index l.happened);
-  by : AllSoFar (IsByPool l.workers) l.by_workers (take l.kept-index l.happened) l.happened;
+  by : AllSoFar (IsByPool l.workers) l.by_pool (take l.kept-index l.happened) l.happened;
   shown : ShowsSoFar l.shows (clocks_of (take l.kept-index l.happened)) l.left l.moments;
 }
