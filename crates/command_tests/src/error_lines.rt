@@ -5,7 +5,7 @@ use command_work::{ProgramError, Refusal};
 use plan_read::{PlanFault, PlanFaultKind};
 use sched_engine::RunError;
 use sched_program::{Answer, tell};
-use scripted_ends::{Script, Taking, Trouble};
+use scripted_runs::ends::{Script, Taking, Trouble};
 use std::io::ErrorKind;
 use std::process::Abort;
 use std::test::Fail;

@@ -5,7 +5,7 @@ use call_journal::{CallLine, Journal, MadeCall};
 use command_work::{ProgramError, write_plan, write_plan_text};
 use plan_read::{PlanFault, PlanFaultKind};
 use sched_engine::RunError;
-use scripted_ends::{Script, Taking};
+use scripted_runs::ends::{Script, Taking};
 use std::alloc::Global;
 use std::io;
 use std::io::ErrorKind;

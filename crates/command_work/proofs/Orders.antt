@@ -15,11 +15,11 @@ use Rattle.plan_read.specs.declared.faults.PlanFaultKind.TheVariants as k
 use Rattle.plan_read.proofs.TextLaw.{text_never_both}
 use Rattle.pool_engine.specs.PoolRuns.{PoolRan}
 use Rattle.sched_engine.specs.Running.{IsAccepted, IsUntouched, Ran, RefusesToRun}
-use Rattle.sched_engine.specs.CodeTexts.{Listed}
-use Rattle.task_list.specs.Writing.{TasksWritten}
+use Rattle.plan_list.specs.ListingTexts.{Listed}
+use Rattle.plan_list.specs.Writing.{TasksWritten}
 use Rattle.sched_engine.specs.declared.report.CodeError.TheVariants as c
-use Rattle.sched_engine.specs.declared.report.ListingError.{ListingError}
-use Rattle.sched_engine.specs.declared.report.ListingError.TheVariants as l
+use Rattle.plan_list.specs.declared.error.ListingError.{ListingError}
+use Rattle.plan_list.specs.declared.error.ListingError.TheVariants as l
 use Rattle.sched_engine.specs.declared.report.Report.{Report}
 use Rattle.sched_engine.specs.Stages.{told_of_opening}
 use Rattle.sched_engine.specs.declared.report.OpenError.{OpenError}

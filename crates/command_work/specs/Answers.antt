@@ -8,11 +8,10 @@ use Rattle.command_line.specs.declared.arguments.RunArguments.{RunArguments}
 use Rattle.command_work.specs.declared.error.ProgramError.{ProgramError}
 use Rattle.command_work.specs.declared.error.ProgramError.TheVariants.{Run}
 use Rattle.sched_engine.specs.Running.{Ran}
-use Rattle.sched_engine.specs.CodeTexts.{Listed}
-use Rattle.sched_engine.specs.Stages.{told_of_listing}
-use Rattle.task_list.specs.Writing.{TasksWritten}
+use Rattle.plan_list.specs.ListingTexts.{Listed, told_of_listing}
+use Rattle.plan_list.specs.Writing.{TasksWritten}
 use Rattle.pool_engine.specs.PoolRuns.{PoolRan}
-use Rattle.sched_engine.specs.declared.report.ListingError.{ListingError}
+use Rattle.plan_list.specs.declared.error.ListingError.{ListingError}
 use Rattle.sched_engine.specs.declared.report.Report.{Report}
 use Rattle.sched_engine.specs.declared.report.RunError.{RunError}
 use Rattle.sched_engine.specs.declared.report.RunError.TheVariants as x

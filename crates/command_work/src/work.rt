@@ -13,14 +13,14 @@ use crate::files::{plan_text, trace_text};
 use crate::finding::write_finding;
 use byte_ends::{Sink, Source, write_text};
 use command_line::{CheckArguments, RunArguments};
+use plan_list::{write_listing, write_tasks};
 use plan_read::{migrate, read_plan};
 use pool_engine::run_pool;
-use sched_engine::{HeapAllocator, RunError, run, write_listing};
+use sched_engine::{HeapAllocator, RunError, run};
 use std::alloc::Global;
 use std::io;
 use std::sync::Wait;
 use std::thread::Threads;
-use task_list::write_tasks;
 
 /// Runs the plan of a file, as the system opened it, as asked: events from the reader and the trace to the writer. `Ok` is
 /// the exit status, 0. At a fault of the file, the plan or the numbers, the first in this order, nothing is read or written.

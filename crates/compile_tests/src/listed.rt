@@ -5,12 +5,12 @@ mod usage;
 mod writers;
 
 use byte_ends::Writing;
+use plan_list::write_tasks;
 use plan_read::{PlanFault, PlanFaultKind, read_plan};
 use sched_engine::RunError;
 use std::alloc::Global;
 use std::process::Abort;
 use std::test::Fail;
-use task_list::write_tasks;
 
 /// A plan with each kind of submission, and calls that are none. Its block is made twice, and so is a second one.
 pub const EACH_KIND: &str = "\

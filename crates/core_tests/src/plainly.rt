@@ -1,5 +1,5 @@
 //! Calls that come where they are put, and not just before a clock. `trace_check` has the plain program answer the events of all
-//! rows of the crate `rows`.
+//! rows of the crate `scripted_runs`.
 mod cores;
 mod usage;
 

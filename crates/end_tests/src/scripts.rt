@@ -1,11 +1,11 @@
 //! The example of the page, as it stands there: `tools/docs` compares them.
-use scripted_ends::{Giving, Script};
+use scripted_runs::ends::{Giving, Script};
 use std::io::Read;
 use std::test::Fail;
 
 #[test]
 fn the_page_is_run(rt: HostRuntime) -> Result<(), Fail> {
-    // example: scripted_ends
+    // example: scripted_runs::ends
     let script = Script {
         interrupts: 1,
         ..Script::smooth(3)

@@ -23,7 +23,7 @@ use Rattle.task_table.specs.Ends.{effect_of, effect_gone}
 use Rattle.task_table.specs.Changes.{cancelled, cancel_by, cancel_in, at_moment}
 use Rattle.task_table.proofs.Vacancy.{IsOther}
 use Rattle.task_table.proofs.Written.{slot_within}
-use Rattle.plan_table.specs.Numbered.{tasks_at}
+use Rattle.executor_core.specs.plan_table.Numbered.{tasks_at}
 use Rattle.executor_core.specs.own.Invariants.{core_of, ArePlaced, IsCore}
 use Rattle.executor_core.specs.own.OwnSteps.{Takes}
 use Rattle.executor_core.proofs.Reaching.{count_tasks}

@@ -26,7 +26,7 @@ use Rattle.task_table.specs.Changes.{ended, finished}
 use Rattle.task_table.specs.Runs.{Ends}
 use Rattle.task_table.specs.Runs.{IsEndOf}
 use Rattle.task_table.proofs.Written.{slot_within}
-use Rattle.plan_table.specs.Numbered.{task_at, tasks_at}
+use Rattle.executor_core.specs.plan_table.Numbered.{task_at, tasks_at}
 use Rattle.executor_core.specs.declared.foreseen.RunEnd.{RunEnd}
 use Rattle.executor_core.specs.Foresight.{run_end, end_of_work, end_in}
 use Rattle.executor_core.specs.CoreView.{CoreView, state_of}

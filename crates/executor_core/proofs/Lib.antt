@@ -1,3 +1,4 @@
+pub mod plan_table
 pub mod Continuing
 pub mod ErrorSteps
 pub mod Reaching

@@ -44,7 +44,7 @@ use Rattle.task_table.proofs.Standing.{Known}
 use Rattle.task_table.proofs.Cancels.{effect_is}
 use Rattle.task_table.proofs.Firsts.{waits_is}
 use Rattle.task_table.proofs.Sweeps.{waits_alike}
-use Rattle.plan_table.specs.Numbered.{task_at, tasks_at}
+use Rattle.executor_core.specs.plan_table.Numbered.{task_at, tasks_at}
 use Rattle.executor_core.specs.CoreView.{CoreView, workers_of, state_of}
 use Rattle.executor_core.specs.own.Invariants.{core_of, IsCore}
 use Rattle.executor_core.proofs.Opens.{tells_none}

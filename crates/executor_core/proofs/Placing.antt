@@ -18,7 +18,7 @@ use Rattle.task_table.specs.Tables.{TableView}
 use Rattle.task_table.specs.Changes.{swept, after_sweep}
 use Rattle.task_table.proofs.Written.{by_eqb, set_writes, read_slot}
 use Rattle.task_table.proofs.Firsts.{waits_is}
-use Rattle.plan_table.specs.Numbered.{task_at, tasks_at}
+use Rattle.executor_core.specs.plan_table.Numbered.{task_at, tasks_at}
 use Rattle.executor_core.specs.CoreView.{state_of}
 use Rattle.executor_core.specs.own.Invariants.{core_of, IsPlaced, ArePlaced}
 use Rattle.executor_core.specs.own.OwnSteps.{IsUnkept, AreUnkept, NoneWaitsDelayed}

@@ -12,7 +12,7 @@ use Rattle.task_table.specs.Seats.{slot_of}
 use Rattle.task_table.specs.Tables.{TableView, WorkIs, Takes as TableTakes}
 use Rattle.task_table.proofs.Standing.{Known, made_there}
 use Rattle.task_table.proofs.Knowing.{known}
-use Rattle.plan_table.specs.Numbered.{task_at, tasks_at}
+use Rattle.executor_core.specs.plan_table.Numbered.{task_at, tasks_at}
 use Rattle.executor_core.specs.CoreView.{CoreView, workers_of, state_of}
 use Rattle.executor_core.specs.own.Invariants.{core_of, ArePlaced, IsReached}
 

@@ -22,7 +22,7 @@ use Rattle.task_table.proofs.Knowing.{known}
 use Rattle.task_table.proofs.Firsts.{start_gets, start_said}
 use Rattle.task_table.proofs.Starts.{stands_before}
 use Rattle.task_table.proofs.Written.{slot_within}
-use Rattle.plan_table.specs.Numbered.{task_at, tasks_at}
+use Rattle.executor_core.specs.plan_table.Numbered.{task_at, tasks_at}
 use Rattle.executor_core.specs.CoreView.{state_of, RunsBelowTaken}
 use Rattle.executor_core.specs.own.Invariants.{core_of, ArePlaced, IsCore}
 use Rattle.executor_core.specs.own.OwnSteps.{Takes, AreUnkept}

@@ -21,7 +21,7 @@ use Rattle.task_table.specs.Seats.{slot_of, IsNew}
 use Rattle.task_table.specs.Tables.{TableView, CallSteps}
 use Rattle.task_table.specs.Changes.{submitted, admitted, at_moment}
 use Rattle.task_table.proofs.Vacancy.{IsOther}
-use Rattle.plan_table.specs.Numbered.{task_at, tasks_at}
+use Rattle.executor_core.specs.plan_table.Numbered.{task_at, tasks_at}
 use Rattle.executor_core.specs.own.Invariants.{core_of, ArePlaced, IsCore}
 use Rattle.executor_core.specs.own.OwnSteps.{Takes}
 use Rattle.executor_core.proofs.Reaching.{count_tasks, read_task, core_known, there_said}

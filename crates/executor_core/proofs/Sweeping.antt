@@ -39,8 +39,8 @@ use Rattle.task_table.proofs.Firsts.{waits_is}
 use Rattle.task_table.proofs.Vacancy.{IsOther}
 use Rattle.task_table.proofs.Starts.{stands_before}
 use Rattle.task_table.proofs.Sweeps.{policy_sweeps, shutdown_sweeps, stop_sweeps}
-use Rattle.plan_table.specs.Numbered.{task_at, tasks_at}
-use Rattle.plan_table.specs.Tasks.{periodic_in, waits_again, is_periodic}
+use Rattle.executor_core.specs.plan_table.Numbered.{task_at, tasks_at}
+use Rattle.executor_core.specs.plan_table.Tasks.{periodic_in, waits_again, is_periodic}
 use Rattle.executor_core.specs.CoreView.{state_of, room_of, Steps}
 use Rattle.executor_core.specs.own.Invariants.{core_of, ArePlaced, IsCore}
 use Rattle.executor_core.specs.own.OwnSteps.{AreUnkept, NoneWaitsDelayed, swept_slots}

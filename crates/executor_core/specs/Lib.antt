@@ -14,6 +14,7 @@ pub use Rattle.executor_model.specs.Tasks
 pub use Rattle.executor_model.specs.Flows
 pub use Rattle.executor_model.specs.Within
 pub use Rattle.executor_model.specs.Needs
+pub mod plan_table
 pub mod CoreView
 pub mod Foresight
 pub mod Alike

@@ -100,6 +100,7 @@ mod error;
 mod foreseen;
 mod laws;
 mod machine;
+pub mod plan_table;
 mod room;
 
 pub use error::CoreError;

@@ -16,9 +16,9 @@ mod sweeps;
 mod workers;
 
 use crate::error::CoreError;
+use crate::plan_table::{PlanTable, plan_table};
 use crate::room::make_room;
 use executor_model::{Event, Happening, Line, MOST_WORKERS};
-use plan_table::{PlanTable, plan_table};
 use queue_code::{Agenda, Code};
 use std::alloc::{AllocError, Allocator};
 use std::marker::Model;

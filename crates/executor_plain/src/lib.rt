@@ -36,7 +36,7 @@
 //!
 //! # Tests
 //!
-//! `check_tests` compares this program with cores, over the crate `rows`. The tests of
+//! `check_tests` compares this program with cores, over the crate `scripted_runs`. The tests of
 //! `executor_model`, and of `executor_core` by itself, stand in `core_tests`.
 #![tactic(auto)]
 

@@ -7,7 +7,7 @@ use call_text::CallLine;
 use live_engine::{LiveReport, run};
 use refusing_allocator::Refusing;
 use sched_engine::RunError;
-use scripted_ends::{Giving, Script, Taking, Trouble};
+use scripted_runs::ends::{Giving, Script, Taking, Trouble};
 use std::alloc::Global;
 use std::process::Abort;
 use std::test::Fail;

@@ -4,7 +4,7 @@ mod usage;
 use std::alloc::{AllocError, Global};
 use std::process::Abort;
 use std::test::Fail;
-use svg_elements::{
+use trace_svg::elements::{
     Closing, Escaped, Face, Fill, GLYPHS, Glyph, Label, Mark, Opening, Rectangle, STYLE, Segment,
     Stroke,
 };

@@ -9,7 +9,7 @@ use byte_ends::Writing;
 use linked_list_allocator::LocalHeap;
 use plan_compile::names_of_tasks;
 use plan_read::{Name, Plan, read_plan};
-use scripted_ends::{Script, Taking, Trouble};
+use scripted_runs::ends::{Script, Taking, Trouble};
 use std::alloc::{AllocError, Global};
 use std::io::ErrorKind;
 use std::process::Abort;

@@ -6,7 +6,7 @@ use byte_ends::{Pieces, Reading};
 use command_work::{
     MOST_OF_PLAN, MOST_OF_TRACE, ProgramError, plan_front, plan_text, trace_text, whole_trace,
 };
-use scripted_ends::{Giving, Script, Trouble};
+use scripted_runs::ends::{Giving, Script, Trouble};
 use std::alloc::Global;
 use std::fs;
 use std::io::ErrorKind;

@@ -2,13 +2,14 @@
 ghost use Rattle.std.specs.Prelude.{◌≡◌, IfOk, IfErr};
 ghost use Rattle.sched_audit.specs.Audits.{FindsByText, HasNoAudit, IsWhole};
 ghost use Rattle.sched_engine.specs.Running.{CountsReader, CountsWriter, Ran, RanInMemory};
-ghost use Rattle.sched_engine.specs.CodeTexts.{CountsListing, Listed};
-ghost use Rattle.task_list.specs.Writing.{TasksWritten};
+ghost use Rattle.plan_list.specs.ListingTexts.{CountsListing, Listed};
+ghost use Rattle.plan_list.specs.Writing.{TasksWritten};
 
 use byte_ends::{Sink, Source};
+use plan_list::ListingError;
 use plan_read::HeapAllocator;
 use sched_audit::{Audit, AuditError};
-use sched_engine::{ListingError, Report, RunError};
+use sched_engine::{Report, RunError};
 use trace_check::Finding;
 
 /// [`sched_engine::run`].
@@ -43,7 +44,7 @@ pub fn run_in_memory<A: HeapAllocator>(
     sched_engine::run_in_memory(alloc, plan_text, workers, limit, input)
 }
 
-/// [`sched_engine::write_listing`].
+/// [`plan_list::write_listing`].
 pub fn write_listing<A: HeapAllocator, W: Sink>(
     alloc: A,
     plan_text: &[u8],
@@ -53,10 +54,10 @@ pub fn write_listing<A: HeapAllocator, W: Sink>(
     ensures write { CountsListing result (W.failed writer.old) (W.fruitless writer.old)
         (W.failed writer.new) (W.fruitless writer.new) }
 {
-    sched_engine::write_listing(alloc, plan_text, writer)
+    plan_list::write_listing(alloc, plan_text, writer)
 }
 
-/// [`task_list::write_tasks`].
+/// [`plan_list::write_tasks`].
 pub fn write_tasks<A: HeapAllocator, W: Sink>(
     alloc: A,
     plan_text: &[u8],
@@ -67,7 +68,7 @@ pub fn write_tasks<A: HeapAllocator, W: Sink>(
     ensures write { CountsListing result (W.failed writer.old) (W.fruitless writer.old)
         (W.failed writer.new) (W.fruitless writer.new) }
 {
-    task_list::write_tasks(alloc, plan_text, writer)
+    plan_list::write_tasks(alloc, plan_text, writer)
 }
 
 /// [`sched_audit::run_and_check`].

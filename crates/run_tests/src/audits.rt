@@ -6,10 +6,11 @@ mod units;
 mod usage;
 
 use byte_ends::Writing;
+use plan_list::write_listing;
 use plan_read::{PlanFault, PlanFaultKind, migrate};
-use rows::runs::ONE_DELAY;
 use sched_audit::{Audit, AuditError, run_and_check};
-use sched_engine::{Report, RunError, write_listing};
+use sched_engine::{Report, RunError};
+use scripted_runs::runs::ONE_DELAY;
 use std::process::Abort;
 use std::test::Fail;
 use trace_check::Finding;

@@ -1,8 +1,8 @@
 //! Runs of plans over bytes in memory: what they answer and write.
 use byte_ends::{Pieces, Reading, Writing};
 use plan_read::{PlanFault, PlanFaultKind};
-use rows::runs::{ERRORS, ONE_DELAY};
 use sched_engine::{OpenError, Report, RunError, run, run_in_memory};
+use scripted_runs::runs::{ERRORS, ONE_DELAY};
 use std::alloc::Global;
 use std::io;
 use std::io::{ErrorKind, Read, Write};

@@ -32,7 +32,7 @@
 //! The words of the command line become one value, [`Asked`](command_line::Asked), before anything is opened. Then at most 1,048,577
 //! bytes of the plan file are read, and [`run`](sched_engine::run) does the rest: it answers all that it read before it
 //! reads more. `code` writes the listing of the plan's code instead ([`write_listing`](sched_engine::write_listing)), and `tasks` a
-//! line for each task that it submits ([`write_tasks`](task_list::write_tasks)).
+//! line for each task that it submits ([`write_tasks`](plan_list::write_tasks)).
 //! `pool` does it by [`run_pool`](pool_engine::run_pool): standard input has clocks alone, all of which are read first, and a run's
 //! value is its number. `check` reads the plan, then at most 67,108,865 bytes of the trace file, and writes `conforms`, or `breaks N` with the
 //! number of a line from 1 ([`check`](trace_check::check)). `migrate` writes the plan of a text of version 1 as one of version 2

@@ -49,7 +49,7 @@
 //!
 //! # Tests
 //!
-//! They stand in `run_tests`: over the crate `rows`, runs that end early, the texts of errors, and runs, checks and listings of
+//! They stand in `run_tests`: over the crate `scripted_runs`, runs that end early, the texts of errors, and runs, checks and listings of
 //! 80 KB and more.
 //!
 //! Some are about crates below as well: of a plan that is read, compiled, listed, run and checked, and of an event, each

@@ -5,13 +5,10 @@ use Rattle.byte_ends.proofs.Tries.{good_then_bad, good_then_good, no_call, no_tr
 use Rattle.sched_engine.specs.declared.engine.Turn.{Turn}
 use Rattle.sched_engine.specs.declared.engine.Turn.TheVariants as t
 use Rattle.sched_engine.specs.declared.report.Report.{Report}
-use Rattle.sched_engine.specs.declared.report.CodeError.{CodeError}
-use Rattle.sched_engine.specs.declared.report.ListingError.TheVariants as l
 use Rattle.sched_engine.specs.declared.report.OpenError.{OpenError}
 use Rattle.sched_engine.specs.declared.report.OpenError.TheVariants as o
 use Rattle.sched_engine.specs.declared.report.StopError.{StopError}
 use Rattle.sched_engine.specs.declared.report.StopError.TheVariants as s
-use Rattle.sched_engine.specs.CodeTexts.{CountsListing}
 use Rattle.sched_engine.specs.Running.{CountsReader, CountsReads, CountsWriter, CountsWrites}
 use Rattle.sched_engine.specs.Stages.{told_of_opening, told_of_stop}
 
@@ -53,7 +50,3 @@ writes_refused (o.Plan fault) f r = no_call f r
 writes_refused o.Workers f r = no_call f r
 writes_refused o.Limit f r = no_call f r
 writes_refused o.Memory f r = no_try f r
-
--- a listing of no code
-pub lists_none : (e : CodeError) (f r : ℕ) → CountsListing (Err (l.Code e)) f r f r
-lists_none e f r = no_call f r

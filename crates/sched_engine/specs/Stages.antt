@@ -1,9 +1,7 @@
--- Stages: what a caller is told of an error of the compiling, of a listing, of the opening of a run, and of its way.
+-- Stages: what a caller is told of an error of the compiling, of the opening of a run, and of its way.
 -- All of it is this project's rule.
 use Rattle.sched_engine.specs.declared.report.CodeError.{CodeError}
 use Rattle.sched_engine.specs.declared.report.CodeError.TheVariants as c
-use Rattle.sched_engine.specs.declared.report.ListingError.{ListingError}
-use Rattle.sched_engine.specs.declared.report.ListingError.TheVariants as l
 use Rattle.sched_engine.specs.declared.report.OpenError.{OpenError}
 use Rattle.sched_engine.specs.declared.report.OpenError.TheVariants as o
 use Rattle.sched_engine.specs.declared.report.StopError.{StopError}
@@ -19,10 +17,6 @@ opening_of c.Memory = o.Memory
 abbrev pub told_of_code : CodeError → RunError
 told_of_code (c.Plan fault) = x.Plan fault
 told_of_code c.Memory = x.Memory
-
-abbrev pub told_of_listing : ListingError → RunError
-told_of_listing (l.Code error) = told_of_code error
-told_of_listing l.Write = x.Write
 
 abbrev pub told_of_opening : OpenError → RunError
 told_of_opening (o.Plan fault) = x.Plan fault

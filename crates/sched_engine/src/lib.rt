@@ -17,11 +17,9 @@
 //!
 //! # Behaviour
 //!
-//! The plan is read and compiled to a queue code, from which the core of the run is made, and of which
-//! [`write_listing`] writes the text. A run goes in turns. A turn reads once, at most 64 KiB; then it answers each event line that
-//! has come whole, and writes the answers. So between two reads every event that was read has its
-//! answer written, and at most a part of one line is held. An event line has at most 63 bytes with
-//! its newline.
+//! The plan is read and compiled to a queue code, from which the core of the run is made. A run goes in turns. A turn reads once, at
+//! most 64 KiB; then it answers each event line that has come whole, and writes the answers. So between two reads every event that
+//! was read has its answer written, and at most a part of one line is held. An event line has at most 63 bytes with its newline.
 //!
 //! # Order and ties
 //!
@@ -41,8 +39,6 @@
 //! | | memory was refused for the lines of a further event, within the limit | the answers to all events before |
 //!
 //! These are put together of the errors of each stage, as a caller is told: [`CodeError`], [`OpenError`], [`StopError`].
-//! [`write_listing`] answers [`ListingError::Code`] with nothing written, and [`ListingError::Write`] with a front of the listing
-//! written.
 //!
 //! When an end is at fault is as `byte_ends` has it. An end at fault is not called again. At most one piece, 64 KiB, is read behind
 //! the last event that was taken.
@@ -63,7 +59,6 @@ mod draft;
 mod engine;
 mod in_memory;
 mod laws;
-mod listing;
 mod one_event;
 mod report;
 
@@ -71,6 +66,5 @@ pub use draft::Draft;
 pub use engine::{code_of, core_of, run};
 pub use in_memory::run_in_memory;
 pub use laws::{events_are_one, front_is_one, report_equality_tells, run_error_equality_tells};
-pub use listing::write_listing;
 pub use plan_read::HeapAllocator;
-pub use report::{CodeError, ListingError, OpenError, Report, RunError, StopError};
+pub use report::{CodeError, OpenError, Report, RunError, StopError};

@@ -20,15 +20,6 @@ pub enum CodeError {
     Memory,
 }
 
-/// Why a listing is not written whole.
-#[derive(Clone, Copy, Debug)]
-pub enum ListingError {
-    /// There is no code to list: nothing was written.
-    Code(CodeError),
-    /// The writer was at fault: a front of the listing was written.
-    Write,
-}
-
 /// Why a run is not opened: nothing was read or written.
 #[derive(Clone, Copy, Debug)]
 pub enum OpenError {
@@ -100,29 +91,6 @@ impl From<AllocError> for RunError {
     }
 }
 
-impl From<CodeError> for ListingError {
-    ghost use Rattle.std.specs.Prelude.{◌≡◌};
-    ghost use Rattle.sched_engine.specs.declared.report.ListingError.TheVariants.{Code};
-
-    ghost from_gives = { λ error e. e ≡ Code error };
-
-    fn from(error: CodeError) -> ListingError {
-        ListingError::Code(error)
-    }
-}
-
-impl From<AllocError> for ListingError {
-    ghost use Rattle.std.specs.Prelude.{◌≡◌};
-    ghost use Rattle.sched_engine.specs.declared.report.CodeError.TheVariants.{Memory};
-    ghost use Rattle.sched_engine.specs.declared.report.ListingError.TheVariants.{Code};
-
-    ghost from_gives = { λ _ e. e ≡ Code Memory };
-
-    fn from(_: AllocError) -> ListingError {
-        ListingError::Code(CodeError::Memory)
-    }
-}
-
 impl From<AllocError> for OpenError {
     ghost use Rattle.std.specs.Prelude.{◌≡◌};
     ghost use Rattle.sched_engine.specs.declared.report.OpenError.TheVariants.{Memory};
@@ -158,20 +126,6 @@ impl From<CodeError> for RunError {
         match error {
             CodeError::Plan(fault) => RunError::Plan(fault),
             CodeError::Memory => RunError::Memory,
-        }
-    }
-}
-
-impl From<ListingError> for RunError {
-    ghost use Rattle.std.specs.Prelude.{◌≡◌};
-    ghost use Rattle.sched_engine.specs.Stages.{told_of_listing};
-
-    ghost from_gives = { λ error e. e ≡ told_of_listing error };
-
-    fn from(error: ListingError) -> RunError {
-        match error {
-            ListingError::Code(error) => RunError::from(error),
-            ListingError::Write => RunError::Write,
         }
     }
 }

@@ -1,3 +1,4 @@
+pub mod elements
 pub mod Ranges
 pub mod Appended
 pub mod Refused

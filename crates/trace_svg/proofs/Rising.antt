@@ -7,7 +7,7 @@ use Rattle.std.proofs.lemmas.List.Elements.{All-get_or, filter_passes}
 use Rattle.std.proofs.lemmas.List.Kept.{AllPairs-filter}
 use Rattle.queue_code.specs.Calls.{Planned}
 use Rattle.executor_model.specs.declared.types.Line.{Line}
-use Rattle.svg_elements.specs.declared.words.Glyph.{Glyph}
+use Rattle.trace_svg.specs.declared.elements.words.Glyph.{Glyph}
 use Rattle.trace_draw.specs.declared.bars.Bar.{Bar}
 use Rattle.trace_draw.specs.declared.window.Window.{Window}
 use Rattle.trace_draw.specs.Bars.{bars_of, shows_bar}

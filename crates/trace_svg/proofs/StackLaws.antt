@@ -2,8 +2,8 @@
 use Rattle.std.proofs.Common.{◌≡◌, ◌<◌, ◌==◌, List, [], ◌∷◌, length, refl, ◌∙◌}
 use Rattle.std.specs.List.{AllByRecursion}
 use Rattle.executor_model.specs.declared.types.Line.{Line}
-use Rattle.svg_elements.specs.declared.words.Glyph.{Glyph}
-use Rattle.svg_elements.specs.declared.words.Glyph.TheVariants as glyph
+use Rattle.trace_svg.specs.declared.elements.words.Glyph.{Glyph}
+use Rattle.trace_svg.specs.declared.elements.words.Glyph.TheVariants as glyph
 use Rattle.trace_draw.specs.Pictures.{marks_within}
 use Rattle.trace_svg.specs.Keys.{rows}
 use Rattle.trace_svg.specs.Places.{across, glyph_of, height_of}

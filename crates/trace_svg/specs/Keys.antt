@@ -4,14 +4,14 @@ use Rattle.std.specs.List.{range_with_len}
 use Rattle.std.specs.Fmt.{decimal}
 use Rattle.sched_time.specs.declared.unit.Unit.{Unit as TimeUnit}
 use Rattle.sched_time.specs.declared.unit.Unit.TheVariants as unit
-use Rattle.svg_elements.specs.declared.words.Fill.{Fill}
-use Rattle.svg_elements.specs.declared.words.Fill.TheVariants as fill
-use Rattle.svg_elements.specs.declared.words.Glyph.{Glyph}
-use Rattle.svg_elements.specs.declared.words.Glyph.TheVariants as glyph
-use Rattle.svg_elements.specs.declared.words.Stroke.TheVariants as stroke
-use Rattle.svg_elements.specs.declared.words.Face.TheVariants as face
-use Rattle.svg_elements.specs.Elements.{rectangle_text, mark_text, segment_text, label_text}
-use Rattle.svg_elements.specs.Words.{fill_word, glyph_word}
+use Rattle.trace_svg.specs.declared.elements.words.Fill.{Fill}
+use Rattle.trace_svg.specs.declared.elements.words.Fill.TheVariants as fill
+use Rattle.trace_svg.specs.declared.elements.words.Glyph.{Glyph}
+use Rattle.trace_svg.specs.declared.elements.words.Glyph.TheVariants as glyph
+use Rattle.trace_svg.specs.declared.elements.words.Stroke.TheVariants as stroke
+use Rattle.trace_svg.specs.declared.elements.words.Face.TheVariants as face
+use Rattle.trace_svg.specs.elements.Elements.{rectangle_text, mark_text, segment_text, label_text}
+use Rattle.trace_svg.specs.elements.Words.{fill_word, glyph_word}
 use Rattle.trace_draw.specs.declared.ticks.Tick.{Tick}
 use Rattle.trace_draw.specs.declared.window.Window.{Window}
 use Rattle.trace_svg.specs.Places.{time_begins, time_ends, across, height_of, lane_top, axis_top}

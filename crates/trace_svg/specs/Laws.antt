@@ -3,7 +3,7 @@ use Rattle.std.specs.Prelude.{◌≡◌, ℕ, ◌<◌, ◌≤◌, List, Some, sl
 use Rattle.std.specs.List.{AllByRecursion, sum_by}
 use Rattle.queue_code.specs.Calls.{Planned}
 use Rattle.executor_model.specs.declared.types.Line.{Line}
-use Rattle.svg_elements.specs.declared.words.Glyph.{Glyph}
+use Rattle.trace_svg.specs.declared.elements.words.Glyph.{Glyph}
 use Rattle.trace_draw.specs.declared.bars.Bar.{Bar}
 use Rattle.trace_draw.specs.declared.window.Window.{Window}
 use Rattle.trace_draw.specs.Laws.{IsTraceOf}

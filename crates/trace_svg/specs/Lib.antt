@@ -1,3 +1,4 @@
+pub mod elements
 pub mod Places
 pub mod Keys
 pub mod Runs

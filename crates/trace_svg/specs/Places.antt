@@ -4,8 +4,8 @@ use Rattle.executor_model.specs.declared.types.Answer.{Answer}
 use Rattle.executor_model.specs.declared.types.Answer.TheVariants as a
 use Rattle.executor_model.specs.declared.types.Message.{Message}
 use Rattle.executor_model.specs.declared.types.Message.TheVariants as m
-use Rattle.svg_elements.specs.declared.words.Glyph.{Glyph}
-use Rattle.svg_elements.specs.declared.words.Glyph.TheVariants as glyph
+use Rattle.trace_svg.specs.declared.elements.words.Glyph.{Glyph}
+use Rattle.trace_svg.specs.declared.elements.words.Glyph.TheVariants as glyph
 use Rattle.trace_draw.specs.declared.bars.Bar.{Bar}
 use Rattle.trace_draw.specs.declared.bars.Finish.{Finish}
 use Rattle.trace_draw.specs.declared.window.Window.{Window}

@@ -7,10 +7,10 @@ use Rattle.executor_model.specs.declared.types.Message.TheVariants as m
 use Rattle.executor_model.specs.declared.types.Outcome.{Outcome}
 use Rattle.executor_model.specs.declared.types.Outcome.TheVariants as outcome
 use Rattle.trace_text.specs.Spelling.{line_text}
-use Rattle.svg_elements.specs.declared.words.Fill.{Fill}
-use Rattle.svg_elements.specs.declared.words.Fill.TheVariants as fill
-use Rattle.svg_elements.specs.declared.words.Face.TheVariants as face
-use Rattle.svg_elements.specs.Elements.{rectangle_text, mark_text, label_text}
+use Rattle.trace_svg.specs.declared.elements.words.Fill.{Fill}
+use Rattle.trace_svg.specs.declared.elements.words.Fill.TheVariants as fill
+use Rattle.trace_svg.specs.declared.elements.words.Face.TheVariants as face
+use Rattle.trace_svg.specs.elements.Elements.{rectangle_text, mark_text, label_text}
 use Rattle.trace_draw.specs.declared.bars.Bar.{Bar}
 use Rattle.trace_draw.specs.declared.bars.Finish.{Finish}
 use Rattle.trace_draw.specs.declared.window.Window.{Window}

@@ -1,6 +1,6 @@
 -- The text of a picture. All of it is this project's rule. A text is grouped to the right.
 use Rattle.std.specs.Prelude.{ℕ, ◌+◌, List, ◌++◌, flat_map}
-use Rattle.svg_elements.specs.Elements.{opening_text, closing_text}
+use Rattle.trace_svg.specs.elements.Elements.{opening_text, closing_text}
 use Rattle.trace_draw.specs.Pictures.{Shown}
 use Rattle.trace_svg.specs.Places.{wide, axis_top}
 use Rattle.trace_svg.specs.Keys.{legend_text, rows_text, lanes_text, axis_text}

@@ -2,9 +2,9 @@
 use Rattle.std.specs.Prelude.{ℕ, ◌+◌, ◌-◌, ◌==◌, Bool, List, [], ◌∷◌, ◌++◌, length, take, drop, filter, flat_map}
 use Rattle.std.specs.Fmt.{decimal}
 use Rattle.executor_model.specs.declared.types.Line.{Line}
-use Rattle.svg_elements.specs.declared.words.Face.TheVariants as face
-use Rattle.svg_elements.specs.declared.words.Glyph.{Glyph}
-use Rattle.svg_elements.specs.Elements.{label_text}
+use Rattle.trace_svg.specs.declared.elements.words.Face.TheVariants as face
+use Rattle.trace_svg.specs.declared.elements.words.Glyph.{Glyph}
+use Rattle.trace_svg.specs.elements.Elements.{label_text}
 use Rattle.trace_draw.specs.declared.window.Window.{Window}
 use Rattle.trace_text.specs.Spelling.{line_text}
 use Rattle.trace_svg.specs.Groups.{groups_of, of_first}

@@ -3,11 +3,11 @@
 ghost use Rattle.std.specs.Prelude.{◌≡◌, ◌++◌, IfOk, OnOk, flat_map, string_bytes};
 ghost use Rattle.trace_svg.specs.Keys.{axis_text, moment_text, tick_text, unit_text};
 
+use crate::elements::{Face, Label, Segment, Stroke};
 use crate::places::{TIME_BEGINS, TIME_ENDS, across, axis_top};
 use sched_time::Unit;
 use std::alloc::{AllocError, Allocator};
 use std::fmt::Write;
-use svg_elements::{Face, Label, Segment, Stroke};
 use trace_draw::{Tick, Window};
 
 /// Appends the axis of a picture with so many workers.

@@ -3,10 +3,10 @@
 ghost use Rattle.std.specs.Prelude.{◌≡◌, ◌++◌, OnOk, flat_map, string_bytes};
 ghost use Rattle.trace_svg.specs.Keys.{fill_key, glyph_key, legend_text, row_name, row_text, rows_text, lane_text, lanes_text};
 
+use crate::elements::{Face, Fill, Glyph, Label, Mark, Rectangle, Segment, Stroke};
 use crate::places::{TIME_BEGINS, TIME_ENDS, height_of, lane_top};
 use std::alloc::{AllocError, Allocator};
 use std::fmt::Write;
-use svg_elements::{Face, Fill, Glyph, Label, Mark, Rectangle, Segment, Stroke};
 
 /// The colours of runs, and where each stands in the legend.
 const FILLS: [(Fill, u16); 6] = [

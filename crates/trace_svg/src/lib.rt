@@ -80,6 +80,7 @@
 
 mod axis;
 mod drawing;
+pub mod elements;
 mod keys;
 mod laws;
 mod marks;

@@ -3,11 +3,11 @@
 ghost use Rattle.std.specs.Prelude.{◌≡◌, ◌++◌, OnOk, string_bytes};
 ghost use Rattle.trace_svg.specs.Runs.{line_mark, telling_mark};
 
+use crate::elements::Mark;
 use crate::places::{across, glyph_of, height_of};
 use executor_model::Line;
 use std::alloc::{AllocError, Allocator};
 use std::fmt::Write;
-use svg_elements::Mark;
 use trace_draw::Window;
 use trace_text::LineText;
 

@@ -4,6 +4,7 @@ ghost use Rattle.std.specs.Prelude.{◌≡◌, IfOk, map, string_bytes};
 ghost use Rattle.trace_svg.specs.Shown.{svg_text};
 
 use crate::axis::put_axis;
+use crate::elements::{Closing, Opening};
 use crate::keys::{put_lanes, put_legend, put_rows};
 use crate::piles::put_bars;
 use crate::places::{WIDTH, axis_top};
@@ -11,7 +12,6 @@ use crate::stacks::put_marks;
 use plan_read::Name;
 use std::alloc::{AllocError, Allocator};
 use std::fmt::Write;
-use svg_elements::{Closing, Opening};
 use trace_draw::Picture;
 
 /// The text of a picture as SVG, where `names` has the name of each task at its number.

@@ -5,13 +5,13 @@ ghost use Rattle.std.specs.List.{list_any, range_with_len};
 ghost use Rattle.trace_svg.specs.Groups.{groups_of};
 ghost use Rattle.trace_svg.specs.Piles.{bar_right, bars_in, failed, lies_on, pile_fill, pile_label, pile_left, pile_number, pile_right, pile_shape, pile_text, pile_tip, pile_top, pile_width, piles_in, piles_of, run_tip, runs_label};
 
+use crate::elements::{Face, Fill, Label, Rectangle};
 use crate::places::{across, bar_width, lane_top};
 use crate::runs::{bar_tip, fill_of, letters_in, name_of, put_bar};
 use executor_model::Outcome;
 use plan_read::Name;
 use std::alloc::{AllocError, Allocator};
 use std::fmt::Write;
-use svg_elements::{Face, Fill, Label, Rectangle};
 use trace_draw::{Bar, Finish, Window};
 
 /// How many workers a line can name.

@@ -3,8 +3,8 @@
 ghost use Rattle.std.specs.Prelude.{◌≡◌, ◌≤◌};
 ghost use Rattle.trace_svg.specs.Places.{across, end_across, bar_width, glyph_by, glyph_of, height_of, lane_top, axis_top};
 
+use crate::elements::Glyph;
 use executor_model::{Answer, Message};
-use svg_elements::Glyph;
 use trace_draw::{Bar, Finish, Window, place};
 
 /// How wide a picture is.

@@ -3,12 +3,12 @@
 ghost use Rattle.std.specs.Prelude.{◌≡◌, ◌++◌, IfOk, OnOk, map, string_bytes};
 ghost use Rattle.trace_svg.specs.Runs.{bar_label, bar_shape, bar_text, bar_tip, fill_by, fill_of, finish_line, letters_in, name_of, named_bar_text, run_label, start_line};
 
+use crate::elements::{Face, Fill, Label, Rectangle};
 use crate::places::{across, bar_width, lane_top};
 use executor_model::{Answer, Line, Message, Outcome};
 use plan_read::Name;
 use std::alloc::{AllocError, Allocator};
 use std::fmt::Write;
-use svg_elements::{Face, Fill, Label, Rectangle};
 use trace_draw::{Bar, Finish, Window};
 use trace_text::LineText;
 

@@ -6,13 +6,13 @@ ghost use Rattle.trace_svg.specs.Groups.{groups_of};
 ghost use Rattle.trace_svg.specs.Runs.{line_mark, telling_mark};
 ghost use Rattle.trace_svg.specs.Stacks.{mark_height, marks_in, stack_across, stack_height, stack_label, stack_text, stacks_in, stacks_of, stands_on};
 
+use crate::elements::{Face, Glyph, Label};
 use crate::keys::ROWS;
 use crate::marks::{put_mark, put_telling_mark};
 use crate::places::{across, glyph_of, height_of};
 use executor_model::Line;
 use std::alloc::{AllocError, Allocator};
 use std::fmt::Write;
-use svg_elements::{Face, Glyph, Label};
 use trace_draw::Window;
 use trace_text::LineText;
 

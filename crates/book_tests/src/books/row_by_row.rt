@@ -1,6 +1,6 @@
 //! Rows of plans and events: a book answers each as the row says, without handles.
 use super::{AMPLE, check_lines, code_of, play_code, read_steps};
-use rows::{Row, TOPICS, topic};
+use scripted_runs::{Row, TOPICS, topic};
 use std::alloc::AllocGlobal;
 use std::process::Abort;
 use std::test::Fail;

@@ -1,9 +1,9 @@
 //! Texts that are no trace of a plan, beside some that are one.
 use super::*;
-use rows::Row;
-use rows::runs::{NO_OVERLAP, ONE_DELAY, TWO_WORKERS};
-use rows::shutdown::A_SWEEP;
-use rows::stopping::{A_SHUTDOWN_AT_ONCE, A_SHUTDOWN_AT_ONCE_AFTER_A_SHUTDOWN};
+use scripted_runs::Row;
+use scripted_runs::runs::{NO_OVERLAP, ONE_DELAY, TWO_WORKERS};
+use scripted_runs::shutdown::A_SWEEP;
+use scripted_runs::stopping::{A_SHUTDOWN_AT_ONCE, A_SHUTDOWN_AT_ONCE_AFTER_A_SHUTDOWN};
 
 /// Texts that begin with the same front, held against the plan of a row with one worker.
 struct Texts {

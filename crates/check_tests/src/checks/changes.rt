@@ -8,13 +8,13 @@ use super::*;
 use executor_plain::planned_calls;
 use plan_compile::compile;
 use queue_code::CodeCall;
-use rows::Row;
-use rows::cancels::A_CANCEL_OF_A_RUN;
-use rows::policies::POLICIES_THAT_SWEEP;
-use rows::runs::{ERRORS, TWO_WORKERS};
-use rows::shutdown::{A_SWEEP, AN_ENDED_RUN};
-use rows::stopping::{A_SHUTDOWN_AT_ONCE, A_SHUTDOWN_AT_ONCE_AFTER_A_SHUTDOWN};
 use sched_time::{Timing, Which};
+use scripted_runs::Row;
+use scripted_runs::cancels::A_CANCEL_OF_A_RUN;
+use scripted_runs::policies::POLICIES_THAT_SWEEP;
+use scripted_runs::runs::{ERRORS, TWO_WORKERS};
+use scripted_runs::shutdown::{A_SWEEP, AN_ENDED_RUN};
+use scripted_runs::stopping::{A_SHUTDOWN_AT_ONCE, A_SHUTDOWN_AT_ONCE_AFTER_A_SHUTDOWN};
 
 /// What is found of a text, where the check and the slow program find the same.
 fn found_by_both(

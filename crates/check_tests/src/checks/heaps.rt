@@ -1,7 +1,7 @@
 //! Checks with little memory, over heaps of fixed size.
 use super::*;
 use linked_list_allocator::LocalHeap;
-use rows::shutdown::A_SWEEP;
+use scripted_runs::shutdown::A_SWEEP;
 
 /// Whether a check over a heap of this size is refused memory; else it has this finding. All memory is given back.
 fn is_refused(

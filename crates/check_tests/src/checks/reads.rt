@@ -1,7 +1,7 @@
 //! The lines that a check hands on.
 use super::*;
 use linked_list_allocator::LocalHeap;
-use rows::shutdown::A_SWEEP;
+use scripted_runs::shutdown::A_SWEEP;
 use trace_check::check_and_read;
 use trace_text::write_line;
 

@@ -1,4 +1,4 @@
-//! The rows of the crate `rows`: a core and the plain program give the lines of the trace for the events, each front of the
+//! The rows of the crate `scripted_runs`: a core and the plain program give the lines of the trace for the events, each front of the
 //! trace conforms, and so does no text that ends in a line of it that is cut short or goes on.
 use super::*;
 use executor_core::{Core, CoreError};
@@ -6,7 +6,7 @@ use executor_model::{Event, Line};
 use executor_plain::{planned_calls, trace};
 use plan_compile::compile;
 use queue_code::Code;
-use rows::{Row, TOPICS, topic};
+use scripted_runs::{Row, TOPICS, topic};
 use trace_text::{read_event, write_line};
 
 /// The code of a row's plan.

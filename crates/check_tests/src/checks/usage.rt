@@ -1,7 +1,7 @@
 //! The examples of the comments, as they stand there: `tools/docs` compares them.
 use super::check;
 use plan_read::read_plan;
-use rows::runs::ONE_DELAY;
+use scripted_runs::runs::ONE_DELAY;
 use std::test::Fail;
 use trace_check::{CheckError, Finding, MOST_BYTES};
 
@@ -40,8 +40,8 @@ fn a_trace_breaks(rt: HostRuntime) -> Result<(), Fail> {
 #[test]
 fn a_row_is_checked(rt: HostRuntime) -> Result<(), Fail> {
     let alloc = rt.alloc();
-    // example: rows
-    let row = ONE_DELAY; // of rows::runs
+    // example: scripted_runs
+    let row = ONE_DELAY; // of scripted_runs::runs
     let plan = read_plan(alloc, row.plan.as_bytes())?;
     assert!(rt; row.trace.len() <= MOST_BYTES);
     let finding = check(alloc, &plan, row.workers, row.trace.as_bytes())?;

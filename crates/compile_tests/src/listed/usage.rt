@@ -1,14 +1,14 @@
 //! The examples of the comments, as they stand there: `tools/docs` compares them.
 use byte_ends::Writing;
 use plan_compile::names_of_tasks;
+use plan_list::write_tasks;
 use plan_read::read_plan;
 use std::test::Fail;
-use task_list::write_tasks;
 
 #[test]
 fn the_page_is_run(rt: HostRuntime) -> Result<(), Fail> {
     let alloc = rt.alloc();
-    // example: task_list
+    // example: plan_list
     let text = b"version = 2\n[[block]]\ncall = [ { op = \"execute\", name = \"backup\" } ]\n";
     let mut writer = Writing::new(Vec::new(alloc));
     write_tasks(alloc, text, &mut writer)?;

@@ -1,6 +1,6 @@
 //! Faults: of plans, and of writers.
 use super::*;
-use scripted_ends::{Script, Taking, Trouble};
+use scripted_runs::ends::{Script, Taking, Trouble};
 use std::io::ErrorKind;
 
 /// Texts that are no plans, and the fault of each.

@@ -11,7 +11,7 @@ use Rattle.executor_model.specs.own.Soundness.{NoneDelayed}
 use Rattle.task_table.specs.declared.seat.Seat.{Seat}
 use Rattle.task_table.specs.Seats.{slot_of}
 use Rattle.task_table.specs.Tables.{TableView, Stands}
-use Rattle.plan_table.specs.Numbered.{tasks_at}
+use Rattle.executor_core.specs.plan_table.Numbered.{tasks_at}
 use Rattle.executor_core.specs.CoreView.{CoreView, workers_of, state_of}
 
 -- what contracts see of a core with this table

@@ -10,12 +10,12 @@ ghost use Rattle.task_table.specs.Tables.{IsNextCall, StandsBefore};
 ghost use Rattle.task_table.specs.Firsts.{NoneKept};
 ghost use Rattle.task_table.specs.Ends.{sweeps_at, ends_at_slot};
 ghost use Rattle.task_table.specs.Changes.{after_sweep};
-ghost use Rattle.plan_table.specs.Numbered.{tasks_at};
+ghost use Rattle.executor_core.specs.plan_table.Numbered.{tasks_at};
 ghost use Rattle.executor_core.specs.own.OwnSteps.{AreUnkept, NoneWaitsDelayed, swept_slots};
 
 use super::Core;
+use crate::plan_table::PlanTable;
 use executor_model::{Answer, Line, Message};
-use plan_table::PlanTable;
 use sched_time::Which;
 use std::alloc::Allocator;
 

@@ -16,8 +16,8 @@ ghost use Rattle.executor_core.specs.declared.foreseen.RunEnd.{RunEnd as RunEndO
 
 use super::Core;
 use crate::foreseen::RunEnd;
+use crate::plan_table::PlanTable;
 use executor_model::{Answer, EventError, Line, Message};
-use plan_table::PlanTable;
 use sched_time::Ending;
 use std::alloc::Allocator;
 use task_table::TaskRef;

@@ -1,11 +1,11 @@
 //! The examples of the comments, as they stand there: `tools/docs` compares them.
 use std::test::Fail;
-use svg_elements::{Fill, Rectangle};
+use trace_svg::elements::{Fill, Rectangle};
 
 #[test]
 fn the_page_is_run(rt: HostRuntime) -> Result<(), Fail> {
     let alloc = rt.alloc();
-    // example: svg_elements
+    // example: trace_svg::elements
     let bar = Rectangle {
         fill: Fill::Done,
         left: 1,

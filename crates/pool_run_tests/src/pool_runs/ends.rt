@@ -3,7 +3,7 @@ use super::{CLOCKS, ONE_DELAY, REPORT, TRACE, is_same};
 use byte_ends::{Reading, Writing};
 use pool_engine::run_pool;
 use sched_engine::{Report, RunError};
-use scripted_ends::{Giving, Script, Taking, Trouble};
+use scripted_runs::ends::{Giving, Script, Taking, Trouble};
 use std::io::ErrorKind;
 use std::process::Abort;
 use std::sync::Wait;

@@ -1,7 +1,7 @@
 //! Rows of plans and events: a pool runs each plan through the clocks of its row, where there is nothing but clocks.
 use super::{conforms, ran};
-use rows::{Row, TOPICS, topic};
 use sched_engine::RunError;
+use scripted_runs::{Row, TOPICS, topic};
 use std::process::Abort;
 use std::sync::Wait;
 use std::test::Fail;

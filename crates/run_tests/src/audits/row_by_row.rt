@@ -1,6 +1,6 @@
-//! The rows of the crate `rows`, run and checked.
+//! The rows of the crate `scripted_runs`, run and checked.
 use super::*;
-use rows::{Row, TOPICS, topic};
+use scripted_runs::{Row, TOPICS, topic};
 
 /// Checks the run of a row.
 fn row_conforms(rt: &(impl AllocGlobal + Abort), row: &Row) -> Result<(), Fail> {

@@ -1,9 +1,10 @@
 //! Sizes of real use: an answer of want of memory where memory is, and a limit that no page names, are met here.
 
 use byte_ends::Writing;
+use plan_list::write_listing;
 use plan_read::read_plan;
 use sched_audit::{Audit, run_and_check};
-use sched_engine::{Report, RunError, run_in_memory, write_listing};
+use sched_engine::{Report, RunError, run_in_memory};
 use std::alloc::Global;
 use std::process::Abort;
 use std::test::Fail;

@@ -1,6 +1,6 @@
 //! A plan whose unit is that of its block, and the text to which it is migrated.
 use super::*;
-use rows::times::A_DELAY_IN_SECONDS;
+use scripted_runs::times::A_DELAY_IN_SECONDS;
 
 #[test]
 fn a_migrated_plan_has_the_unit_beside_the_time(rt: HostRuntime) -> Result<(), Fail> {

@@ -1,8 +1,9 @@
 //! The listings and cores of plans, and where there are none.
 use super::scripted::script;
 use super::*;
-use sched_engine::{core_of, write_listing};
-use scripted_ends::{Script, Taking, Trouble};
+use plan_list::write_listing;
+use sched_engine::core_of;
+use scripted_runs::ends::{Script, Taking, Trouble};
 
 /// What the writing of a listing to a writer with a script answered, and the writer.
 fn listed(alloc: Global, plan: &str, script: Script) -> (Result<(), RunError>, Taking) {

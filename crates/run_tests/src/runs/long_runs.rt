@@ -2,7 +2,7 @@
 use super::scripted::{ScriptedRow, plays, script};
 use super::*;
 use sched_engine::run_in_memory;
-use scripted_ends::{Script, Trouble};
+use scripted_runs::ends::{Script, Trouble};
 
 /// An event of 8 bytes, and the line of 18 bytes that answers it.
 const EVENT: &str = "start 9\n";

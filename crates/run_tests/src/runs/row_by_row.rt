@@ -1,6 +1,6 @@
-//! The rows of the crate `rows`, from plan bytes to trace bytes.
+//! The rows of the crate `scripted_runs`, from plan bytes to trace bytes.
 use super::*;
-use rows::{Row, TOPICS, topic};
+use scripted_runs::{Row, TOPICS, topic};
 
 /// Checks the run of a row, whose limit is the number of its events.
 fn runs(rt: &(impl AllocGlobal + Abort), row: &Row) -> Result<(), Fail> {

@@ -1,7 +1,7 @@
 //! Runs whose ends follow a script: they give and take a few bytes at a time, are interrupted, are in trouble at one call, and
 //! give without end.
 use super::*;
-use scripted_ends::{Giving, Script, Taking, Trouble};
+use scripted_runs::ends::{Giving, Script, Taking, Trouble};
 
 /// A run by 9 workers between ends with a script, and what it has to come to.
 #[derive(Clone, Copy)]

@@ -1,6 +1,6 @@
 use Rattle.std.proofs.Common.{◌≡◌, List, ℕ, ◌++◌, string_bytes, subst, sym, refl}
 use Rattle.std.specs.Prelude.{OnOk, flat_map}
-use Rattle.svg_elements.specs.declared.words.Glyph.{Glyph}
+use Rattle.trace_svg.specs.declared.elements.words.Glyph.{Glyph}
 use Rattle.trace_svg.specs.Keys.{rows}
 use Rattle.trace_svg.specs.Stacks.{stack_text, stacks_in}
 use Rattle.trace_svg.proofs.Groups.{parts_of_parts}

@@ -1,6 +1,6 @@
 use Rattle.std.proofs.Common.{◌≡◌, ℕ, List, ◌++◌, drop, string_bytes}
 use Rattle.std.specs.Prelude.{flat_map}
-use Rattle.svg_elements.specs.declared.words.Glyph.{Glyph}
+use Rattle.trace_svg.specs.declared.elements.words.Glyph.{Glyph}
 use Rattle.trace_svg.specs.Stacks.{stack_text, stacks_in}
 use Rattle.trace_svg.proofs.stacks.put_rows.Given as goal
 

@@ -6,7 +6,7 @@ use Rattle.executor_model.specs.declared.types.CancelEffect.TheVariants as ef
 use Rattle.executor_model.specs.Tasks.{uncancelled_in}
 use Rattle.task_table.specs.Seats.{slot_of}
 use Rattle.task_table.specs.Tables.{TableView}
-use Rattle.plan_table.specs.Numbered.{tasks_at}
+use Rattle.executor_core.specs.plan_table.Numbered.{tasks_at}
 use Rattle.executor_core.specs.CoreView.{CoreView}
 use Rattle.executor_core.specs.own.Invariants.{core_of}
 use Rattle.executor_core.specs.own.OwnSteps.{Takes}

@@ -4,7 +4,7 @@ use Rattle.std.specs.Prelude.{not}
 use Rattle.executor_model.specs.declared.task.Task.{Task}
 use Rattle.executor_model.proofs.Flowing.{how_many-le}
 use Rattle.executor_model.proofs.Swept.{few_tasks}
-use Rattle.plan_table.specs.Numbered.{tasks_at}
+use Rattle.executor_core.specs.plan_table.Numbered.{tasks_at}
 use Rattle.executor_core.proofs.machine.Core.room.Goals as goal
 
 pub overflow_add-result-2 : goal.overflow_add-result-2

@@ -11,7 +11,7 @@ use Rattle.executor_model.specs.Tasks.{uncancelled_in}
 use Rattle.task_table.specs.Seats.{IsNew}
 use Rattle.task_table.specs.Tables.{CallSteps}
 use Rattle.task_table.specs.Changes.{admitted}
-use Rattle.plan_table.specs.Numbered.{tasks_at}
+use Rattle.executor_core.specs.plan_table.Numbered.{tasks_at}
 use Rattle.executor_core.specs.CoreView.{CoreView}
 use Rattle.executor_core.specs.own.Invariants.{core_of}
 use Rattle.executor_core.specs.own.OwnSteps.{Takes}

@@ -6,7 +6,7 @@ use Rattle.executor_model.specs.Tasks.{uncancelled_in}
 use Rattle.task_table.specs.Seats.{slot_of}
 use Rattle.task_table.specs.Tables.{TableView}
 use Rattle.task_table.specs.Ends.{ends_at_slot}
-use Rattle.plan_table.specs.Numbered.{tasks_at}
+use Rattle.executor_core.specs.plan_table.Numbered.{tasks_at}
 use Rattle.executor_core.proofs.Sweeping.{partly_count, one_more, unreached_ends, lines_more, fewer_in}
 use Rattle.executor_core.proofs.machine.sweeps.end_tasks.Goals as goal
 use Rattle.executor_core.proofs.machine.sweeps.end_tasks.Goals.{then-sweep_slot, else-sweep_slot}

@@ -6,7 +6,7 @@ use Rattle.executor_model.specs.Flows.{end_line}
 use Rattle.executor_model.specs.Tasks.{uncancelled_in}
 use Rattle.task_table.specs.Ends.{ends_at_slot}
 use Rattle.task_table.specs.own.Found.{partly}
-use Rattle.plan_table.specs.Numbered.{tasks_at}
+use Rattle.executor_core.specs.plan_table.Numbered.{tasks_at}
 use Rattle.executor_core.proofs.machine.sweeps.end_tasks.Given as goal
 
 abbrev pub invariant-loop-task : goal.invariant-loop-task

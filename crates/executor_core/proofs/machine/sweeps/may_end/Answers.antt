@@ -2,8 +2,8 @@
 use Rattle.std.proofs.Common.{◌≡◌, nat_lt, true, false, inl, inr, sym, ap, ◌∙◌, ◌⊎◌, arith}
 use Rattle.std.proofs.lemmas.Bool.Decides.{nat_tests}
 use Rattle.executor_model.proofs.Swept.{not_false}
-use Rattle.plan_table.specs.Numbered.{tasks_at}
-use Rattle.plan_table.specs.Tasks.{periodic_in}
+use Rattle.executor_core.specs.plan_table.Numbered.{tasks_at}
+use Rattle.executor_core.specs.plan_table.Tasks.{periodic_in}
 use Rattle.executor_core.proofs.Sweeping.{none_barred}
 use Rattle.executor_core.proofs.machine.sweeps.may_end.Goals as goal
 use Rattle.executor_core.proofs.machine.sweeps.may_end.Goals.{then-not-policies, else-not-policies}

@@ -1,0 +1,9 @@
+pub use Rattle.plan_read.specs.Plans
+pub use Rattle.plan_compile.specs.Submissions
+pub use Rattle.sched_engine.specs.CodeTexts
+pub use Rattle.sched_engine.specs.Stages
+pub use Rattle.queue_code.specs.Listings
+pub mod ListingTexts
+pub mod Lines
+pub mod Writing
+pub mod own

@@ -1,7 +1,0 @@
-use Rattle.plan_table.proofs.Numbered.{tasks_same}
-use Rattle.plan_table.proofs.tasks.Tasks.periodic.Goals as goal
-
-pub returns-clause-same : goal.returns-clause-same
-returns-clause-same g c =
-    let m = c.self.inside in
-    tasks_same m.words.items m.details.items c.args.self.now m.tallies c.self.invariant c.self.view_is

@@ -1,5 +1,0 @@
-use Rattle.svg_elements.proofs.Looks
-use Rattle.svg_elements.proofs.laws.style_is_the_table.Goals as goal
-
-pub returns : goal.returns
-returns c = Looks.style_is
