@@ -1,5 +1,3 @@
 pub mod Escapes
 pub mod Words
-pub mod Looks
-pub mod Sheets
 pub mod Elements

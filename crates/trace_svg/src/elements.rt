@@ -37,10 +37,7 @@
 //!
 //! The style sheet has colours for white, and for dark by `prefers-color-scheme`. Those of runs are the ones of Okabe and Ito,
 //! which the colour-blind can tell. Two kinds of marks are outlines of two others, and all others differ in their
-//! shapes, so that marks are told without colours ([`marks_are_told_by_shapes`]).
-//! `specs/Looks.antt` is the table of all colours and shapes. The two constants are proved to be the texts that are made of it
-//! ([`style_is_the_table`], [`glyphs_are_the_table`]), and the style sheet to give each thing its colours
-//! ([`style_shows_the_table`]).
+//! shapes, so that marks are told without colours. No contract tells so.
 //!
 //! # Order and ties
 //!
@@ -58,14 +55,10 @@
 
 mod document;
 mod escaped;
-mod laws;
 mod shapes;
 mod words;
 
 pub use document::{Closing, GLYPHS, Opening, STYLE};
 pub use escaped::Escaped;
-pub use laws::{
-    glyphs_are_the_table, marks_are_told_by_shapes, style_is_the_table, style_shows_the_table,
-};
 pub use shapes::{Label, Mark, Rectangle, Segment};
 pub use words::{Face, Fill, Glyph, Stroke};

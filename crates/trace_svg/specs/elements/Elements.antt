@@ -2,12 +2,12 @@
 -- Lengths are whole numbers, in pixels. A text is grouped to the right.
 use Rattle.std.specs.Prelude.{ℕ, List, ◌++◌, codes}
 use Rattle.std.specs.Fmt.{decimal}
+use Rattle.trace_svg.specs.declared.elements.document.TheConstants.{GLYPHS, STYLE}
 use Rattle.trace_svg.specs.declared.elements.words.Fill.{Fill}
 use Rattle.trace_svg.specs.declared.elements.words.Glyph.{Glyph}
 use Rattle.trace_svg.specs.declared.elements.words.Stroke.{Stroke}
 use Rattle.trace_svg.specs.declared.elements.words.Face.{Face}
 use Rattle.trace_svg.specs.elements.Escapes.{escaped}
-use Rattle.trace_svg.specs.elements.Sheets.{style_text, glyphs_text}
 use Rattle.trace_svg.specs.elements.Words.{face_word, fill_word, glyph_word, stroke_word}
 
 -- a filled rectangle: its left and upper side, its width and height, and its tooltip
@@ -36,7 +36,7 @@ label_text face x y text =
 abbrev pub opening_text : ℕ → ℕ → List ℕ
 opening_text width height =
     codes "<svg xmlns=\"http://www.w3.org/2000/svg\" width=\"" ++ (decimal width ++ (codes "\" height=\"" ++ (decimal height ++ (codes "\" viewBox=\"0 0 " ++ (decimal width ++ (codes " " ++ (decimal height
-    ++ (codes "\">\n" ++ (style_text ++ glyphs_text)))))))))
+    ++ (codes "\">\n" ++ (STYLE.now ++ GLYPHS.now)))))))))
 
 -- how it ends
 abbrev pub closing_text : List ℕ
