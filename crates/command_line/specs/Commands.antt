@@ -3,7 +3,7 @@
 -- `sched draw PLAN TRACE --workers N [--from T] [--to T] [--marks M]`, `sched live --workers N [--plan FILE]` and
 -- `sched lint PLAN [--events FILE | --trace FILE --workers N]`.
 -- All of it is this project's rule, in the words that clap has for arguments and commands. The texts of help are no part of it.
-use Rattle.std.specs.Prelude.{[], ◌∷◌, Some, true, false, pos, codes}
+use Rattle.std.specs.Prelude.{List, [], ◌∷◌, Some, true, false, pos, codes}
 use Rattle.clap.specs.Words.{App, Rule, Text, new_rule}
 use Rattle.clap.specs.Simple.{new_shape}
 use Rattle.clap.specs.declared.builder.action.ArgAction.TheVariants.{Set}
@@ -85,72 +85,22 @@ marks_rule = record (new_rule (codes "marks")) {
   parser = Some (Unsigned 0 18446744073709551615);
 }
 
--- `run` with its three arguments
-abbrev pub run_app : App
-run_app = record {
-  top = record (new_shape (codes "run")) { rules = plan_rule ∷ workers_rule ∷ limit_rule ∷ [] };
-  subs = [];
-}
-
--- `pool` with its three arguments
-abbrev pub pool_app : App
-pool_app = record {
-  top = record (new_shape (codes "pool")) { rules = plan_rule ∷ workers_rule ∷ limit_rule ∷ [] };
-  subs = [];
-}
-
--- `code` with its argument
-abbrev pub code_app : App
-code_app = record {
-  top = record (new_shape (codes "code")) { rules = plan_rule ∷ [] };
-  subs = [];
-}
-
--- `tasks` with its argument
-abbrev pub tasks_app : App
-tasks_app = record {
-  top = record (new_shape (codes "tasks")) { rules = plan_rule ∷ [] };
-  subs = [];
-}
-
--- `check` with its three arguments
-abbrev pub check_app : App
-check_app = record {
-  top = record (new_shape (codes "check")) { rules = plan_rule ∷ trace_rule ∷ workers_rule ∷ [] };
-  subs = [];
-}
-
--- `migrate` with its argument
-abbrev pub migrate_app : App
-migrate_app = record {
-  top = record (new_shape (codes "migrate")) { rules = plan_rule ∷ [] };
-  subs = [];
-}
-
--- `draw` with its six arguments
-abbrev pub draw_app : App
-draw_app = record {
-  top = record (new_shape (codes "draw")) { rules = plan_rule ∷ trace_rule ∷ workers_rule ∷ from_rule ∷ to_rule ∷ marks_rule ∷ [] };
-  subs = [];
-}
-
--- `live` with its two arguments
-abbrev pub live_app : App
-live_app = record {
-  top = record (new_shape (codes "live")) { rules = workers_rule ∷ plan_file_rule ∷ [] };
-  subs = [];
-}
-
--- `lint` with its four arguments
-abbrev pub lint_app : App
-lint_app = record {
-  top = record (new_shape (codes "lint")) { rules = plan_rule ∷ events_file_rule ∷ trace_file_rule ∷ workers_of_trace_rule ∷ [] };
-  subs = [];
-}
+-- a command of this name, with these arguments and options
+abbrev pub command_of : Text → List Rule → App
+command_of name rules = record { top = record (new_shape name) { rules = rules }; subs = [] }
 
 -- the program, which has a version, and of which a command has to be named, beside clap's own `help`
 abbrev pub sched_app : App
 sched_app = record {
   top = record (new_shape (codes "sched")) { has_version = true; is_leaf = false; subcommand_required = true };
-  subs = run_app.top ∷ pool_app.top ∷ code_app.top ∷ tasks_app.top ∷ check_app.top ∷ migrate_app.top ∷ draw_app.top ∷ live_app.top ∷ lint_app.top ∷ [];
+  subs = (command_of (codes "run") (plan_rule ∷ workers_rule ∷ limit_rule ∷ [])).top
+      ∷ (command_of (codes "pool") (plan_rule ∷ workers_rule ∷ limit_rule ∷ [])).top
+      ∷ (command_of (codes "code") (plan_rule ∷ [])).top
+      ∷ (command_of (codes "tasks") (plan_rule ∷ [])).top
+      ∷ (command_of (codes "check") (plan_rule ∷ trace_rule ∷ workers_rule ∷ [])).top
+      ∷ (command_of (codes "migrate") (plan_rule ∷ [])).top
+      ∷ (command_of (codes "draw") (plan_rule ∷ trace_rule ∷ workers_rule ∷ from_rule ∷ to_rule ∷ marks_rule ∷ [])).top
+      ∷ (command_of (codes "live") (workers_rule ∷ plan_file_rule ∷ [])).top
+      ∷ (command_of (codes "lint") (plan_rule ∷ events_file_rule ∷ trace_file_rule ∷ workers_of_trace_rule ∷ [])).top
+      ∷ [];
 }

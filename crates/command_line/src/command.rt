@@ -1,8 +1,8 @@
 //! The command line.
 
-ghost use Rattle.std.specs.Prelude.{◌≡◌, false, IfOk};
+ghost use Rattle.std.specs.Prelude.{◌≡◌, false, [], ◌∷◌, codes, IfOk};
 ghost use Rattle.clap.specs.Words.{app_of, rule_of};
-ghost use Rattle.command_line.specs.Commands.{check_app, code_app, draw_app, events_file_rule, from_rule, limit_rule, lint_app, live_app, marks_rule, migrate_app, plan_file_rule, plan_rule, pool_app, run_app, sched_app, tasks_app, to_rule, trace_file_rule, trace_rule, workers_of_trace_rule, workers_rule};
+ghost use Rattle.command_line.specs.Commands.{command_of, events_file_rule, from_rule, limit_rule, marks_rule, plan_file_rule, plan_rule, sched_app, to_rule, trace_file_rule, trace_rule, workers_of_trace_rule, workers_rule};
 
 use crate::help::{CODE, DRAWING, FINDINGS, FORMS, LINT, LIVE, MIGRATION, POOL, STATUSES, TASKS};
 use crate::version::VERSION;
@@ -38,7 +38,7 @@ pub fn command<'a>(alloc: Global) -> Result<Command<'a>, AllocError>
 
 /// `run`, with its three arguments. `Err` where memory ran out.
 fn run_command<'a>(alloc: Global) -> Result<Command<'a>, AllocError>
-    ensures app { IfOk result (λ c. app_of c ≡ run_app) }
+    ensures app { IfOk result (λ c. app_of c ≡ command_of (codes "run") (plan_rule ∷ workers_rule ∷ limit_rule ∷ [])) }
 {
     Ok(
         Command::new(alloc, "run")
@@ -54,7 +54,7 @@ fn run_command<'a>(alloc: Global) -> Result<Command<'a>, AllocError>
 
 /// `pool`, with its three arguments. `Err` where memory ran out.
 fn pool_command<'a>(alloc: Global) -> Result<Command<'a>, AllocError>
-    ensures app { IfOk result (λ c. app_of c ≡ pool_app) }
+    ensures app { IfOk result (λ c. app_of c ≡ command_of (codes "pool") (plan_rule ∷ workers_rule ∷ limit_rule ∷ [])) }
 {
     Ok(
         Command::new(alloc, "pool")
@@ -70,7 +70,7 @@ fn pool_command<'a>(alloc: Global) -> Result<Command<'a>, AllocError>
 
 /// `code`, with its argument. `Err` where memory ran out.
 fn code_command<'a>(alloc: Global) -> Result<Command<'a>, AllocError>
-    ensures app { IfOk result (λ c. app_of c ≡ code_app) }
+    ensures app { IfOk result (λ c. app_of c ≡ command_of (codes "code") (plan_rule ∷ [])) }
 {
     Ok(
         Command::new(alloc, "code")
@@ -82,7 +82,7 @@ fn code_command<'a>(alloc: Global) -> Result<Command<'a>, AllocError>
 
 /// `tasks`, with its argument. `Err` where memory ran out.
 fn tasks_command<'a>(alloc: Global) -> Result<Command<'a>, AllocError>
-    ensures app { IfOk result (λ c. app_of c ≡ tasks_app) }
+    ensures app { IfOk result (λ c. app_of c ≡ command_of (codes "tasks") (plan_rule ∷ [])) }
 {
     Ok(
         Command::new(alloc, "tasks")
@@ -94,7 +94,7 @@ fn tasks_command<'a>(alloc: Global) -> Result<Command<'a>, AllocError>
 
 /// `check`, with its three arguments. `Err` where memory ran out.
 fn check_command<'a>(alloc: Global) -> Result<Command<'a>, AllocError>
-    ensures app { IfOk result (λ c. app_of c ≡ check_app) }
+    ensures app { IfOk result (λ c. app_of c ≡ command_of (codes "check") (plan_rule ∷ trace_rule ∷ workers_rule ∷ [])) }
 {
     Ok(
         Command::new(alloc, "check")
@@ -108,7 +108,7 @@ fn check_command<'a>(alloc: Global) -> Result<Command<'a>, AllocError>
 
 /// `migrate`, with its argument. `Err` where memory ran out.
 fn migrate_command<'a>(alloc: Global) -> Result<Command<'a>, AllocError>
-    ensures app { IfOk result (λ c. app_of c ≡ migrate_app) }
+    ensures app { IfOk result (λ c. app_of c ≡ command_of (codes "migrate") (plan_rule ∷ [])) }
 {
     Ok(
         Command::new(alloc, "migrate")
@@ -122,7 +122,7 @@ fn migrate_command<'a>(alloc: Global) -> Result<Command<'a>, AllocError>
 
 /// `draw`, with its six arguments. `Err` where memory ran out.
 fn draw_command<'a>(alloc: Global) -> Result<Command<'a>, AllocError>
-    ensures app { IfOk result (λ c. app_of c ≡ draw_app) }
+    ensures app { IfOk result (λ c. app_of c ≡ command_of (codes "draw") (plan_rule ∷ trace_rule ∷ workers_rule ∷ from_rule ∷ to_rule ∷ marks_rule ∷ [])) }
 {
     Ok(
         Command::new(alloc, "draw")
@@ -139,7 +139,7 @@ fn draw_command<'a>(alloc: Global) -> Result<Command<'a>, AllocError>
 
 /// `live`, with its two arguments. `Err` where memory ran out.
 fn live_command<'a>(alloc: Global) -> Result<Command<'a>, AllocError>
-    ensures app { IfOk result (λ c. app_of c ≡ live_app) }
+    ensures app { IfOk result (λ c. app_of c ≡ command_of (codes "live") (workers_rule ∷ plan_file_rule ∷ [])) }
 {
     Ok(
         Command::new(alloc, "live")
@@ -154,7 +154,7 @@ fn live_command<'a>(alloc: Global) -> Result<Command<'a>, AllocError>
 
 /// `lint`, with its four arguments. `Err` where memory ran out.
 fn lint_command<'a>(alloc: Global) -> Result<Command<'a>, AllocError>
-    ensures app { IfOk result (λ c. app_of c ≡ lint_app) }
+    ensures app { IfOk result (λ c. app_of c ≡ command_of (codes "lint") (plan_rule ∷ events_file_rule ∷ trace_file_rule ∷ workers_of_trace_rule ∷ [])) }
 {
     Ok(
         Command::new(alloc, "lint")

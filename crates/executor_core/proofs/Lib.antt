@@ -1,4 +1,3 @@
-pub mod plan_table
 pub mod Continuing
 pub mod ErrorSteps
 pub mod Reaching

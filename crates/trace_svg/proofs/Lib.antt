@@ -1,4 +1,3 @@
-pub mod elements
 pub mod Ranges
 pub mod Appended
 pub mod Refused
