@@ -6,7 +6,7 @@ import re
 from pathlib import Path
 
 RULES = Path(__file__).resolve().parents[2] / "docs" / "RULES.md"
-PLAN_CRATES = ("`plan_read`", "`task_name`", "`sched_time`")
+PLAN_CRATES = ("`plan_read`", "`sched_time`")
 LAW = re.compile(r" \(the law [^)]*\)")
 # The ops of a call, and the keys of their own.
 OPS = re.compile(r"((?:`\w+`, )*`\w+`): ((?:`\w+`, )*`\w+`|none)")

@@ -5,7 +5,7 @@ use Rattle.std.proofs.lemmas.Bool.Decides.{nat_tests}
 use Rattle.std.proofs.lemmas.Fmt.{decimal_by_steps, decimal_injective, length-decimal-le}
 use Rattle.std.specs.Fmt.{decimal}
 use Rattle.std.specs.List.{list_all}
-use Rattle.task_name.specs.Names.{is_name_byte, is_name}
+use Rattle.plan_read.specs.task_names.Names.{is_name_byte, is_name}
 use Rattle.plan_read.proofs.HeaderLaw.{test_from_le}
 use Rattle.plan_read.proofs.MigratedLookups.{one_word}
 use Rattle.call_journal.specs.Plans.{task_name}

@@ -1,6 +1,7 @@
 pub use Rattle.sched_engine.specs.Running
 pub use Rattle.pool_engine.specs.PoolRuns
 pub use Rattle.live_engine.specs.LiveRuns
+pub use Rattle.call_journal.specs.MadeCalls
 pub use Rattle.call_journal.specs.Plans
 pub mod Errors
 pub mod EndCounts

@@ -10,6 +10,7 @@ use Rattle.plan_read.specs.declared.faults.PlanFault.{PlanFault}
 use Rattle.plan_read.specs.declared.faults.PlanFaultKind.TheVariants as kinds
 use Rattle.call_journal.specs.Journals.{JournalView}
 use Rattle.call_journal.specs.Plans.{TextFault, tree_of_calls}
+use Rattle.call_journal.specs.MadeCalls.{MayBePlanned, WritesPlanOf}
 use Rattle.live_engine.specs.LiveRuns.{LiveEnds, Ran}
 use Rattle.live_engine.specs.declared.report.LiveReport.{LiveReport}
 use Rattle.byte_ends.specs.Ends.{AllGood, LastBad, WritesText}
@@ -57,10 +58,11 @@ pub record HasNoText (journal : JournalView) (written : Written) : Type 0 where
   pub is : IsToldAs (x.Plan fault) told
   pub tells : written ≡ Err told
 
--- The plan has a text, and that is written to the file.
+-- The plan has a text, and that is written to the file. Where a plan may make the calls, the text's plan makes them.
 pub record HasText {F : Type 0} (journal : JournalView) (written : Written) (IsWritten : Writes F) (Creates : Result F Error → Type 0) : Type 0 where
   pub text : List ℕ
   pub prints : IsDocumentText false (tree_of_calls journal.calls) text
+  pub plan : MayBePlanned journal.calls → WritesPlanOf text journal.calls
   pub short : length text ≤ longest_text
   pub file : Result F Error
   pub creates : Creates file

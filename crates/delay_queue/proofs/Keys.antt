@@ -5,9 +5,10 @@ use Rattle.std.proofs.lemmas.Bool.{cases_lt}
 use Rattle.std.proofs.lemmas.List.{get_or-map, get_or_past, length-map, map-set}
 use Rattle.std.proofs.lemmas.List.Sums.{sum_by-cons}
 use Rattle.std.proofs.lemmas.Option.{same_Some, none-some}
-use Rattle.slot_queue.specs.Entries.{Key, comes_before}
-use Rattle.slot_queue.specs.Queues as slots
-use Rattle.delay_queue.specs.Queues.{Queue, due_in, entry_count, binary_digits, most_touches, greatest_count, IsLeast, IsEmpty, NoneIsDue, Touches}
+use Rattle.delay_queue.specs.slots.Entries.{Key, comes_before}
+use Rattle.delay_queue.specs.slots.Queues as slots
+use Rattle.delay_queue.specs.Queues.{Queue, due_in, entry_count, IsLeast, IsEmpty, NoneIsDue}
+use Rattle.delay_queue.specs.Touches.{most_touches, greatest_count, Touches}
 use Rattle.delay_queue.specs.own.Unranked.{key_due, key_by, keys_by, IsUnranked}
 
 -- the entries of a queue
@@ -117,18 +118,14 @@ pub none_due_is : (kept : List (Option Key)) (entries : List (Option ℕ)) (now 
 none_due_is kept entries now is none j d there = none j (key_due d) (key_is kept entries j is ∙ ap key_by there)
 
 -- the touches of a call
-pub digits_is : (n : ℕ) → slots.binary_digits n ≡ binary_digits n
-unfolding slots.binary_digits binary_digits
-digits_is n = refl
-
 pub touches_are : (kept : List (Option Key)) (entries : List (Option ℕ)) (touched before after : ℕ) (least : ℕ → ℕ) → kept ≡ keys_by entries → touched ≡ before
-    → slots.Touches touched after (least (slots.entry_count kept)) (slots.most_touches (slots.entry_count kept))
+    → Touches touched after (least (slots.entry_count kept)) (most_touches (slots.entry_count kept))
     → Touches before after (least (entry_count entries)) (most_touches (entry_count entries))
 touches_are kept entries touched before after least is same t =
     let count : slots.entry_count kept ≡ entry_count entries = count_is kept entries is in
     record {
       times = t.times;
       many = subst (λ (n : ℕ). least n ≤ t.times) count t.many;
-      few = subst (λ (n : ℕ). t.times ≤ 4 * n + 2) (digits_is (slots.entry_count kept) ∙ ap binary_digits count) t.few;
+      few = subst (λ (n : ℕ). t.times ≤ most_touches n) count t.few;
       counted = t.counted ∙ ap (λ (n : ℕ). min (n + t.times) greatest_count) same;
     }

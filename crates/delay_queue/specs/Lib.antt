@@ -1,2 +1,4 @@
+pub mod Touches
+pub mod slots
 pub mod Queues
 pub mod own

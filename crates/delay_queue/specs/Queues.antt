@@ -1,6 +1,5 @@
 -- What the contracts of a delay queue speak of: its entries as a table by task number, and what its calls touched.
-use Rattle.std.specs.Prelude.{◌≡◌, ℕ, ◌+◌, ◌-◌, ◌*◌, ◌^◌, ◌<◌, ◌≤◌, ◌≢◌, ◌⊎◌, min, length, is_some, count_by, Bool, true, ◌||◌, ◌&&◌, ◌==◌, nat_lt, List, Option, Some, None, slice_index_or}
-use Rattle.std.specs.Int.Digits.{digits_of}
+use Rattle.std.specs.Prelude.{◌≡◌, ℕ, ◌<◌, ◌≢◌, ◌⊎◌, is_some, count_by, Bool, true, ◌||◌, ◌&&◌, ◌==◌, nat_lt, List, Option, Some, None, slice_index_or}
 
 -- A queue. At the place k of its entries stands `Some due` where it has the entry of task k, due at that moment, and
 -- `None` where it has no entry of that task. So no task has two entries. Beside them stands how often its calls compared
@@ -40,23 +39,3 @@ NoneIsDue entries now = (j d : ℕ) → due_in entries j ≡ Some d → now < d
 -- How many entries there are. (This project's rule.)
 abbrev pub entry_count : List (Option ℕ) → ℕ
 entry_count entries = count_by is_some entries
-
--- How many binary digits a number has, and none for 0. (This project's rule.)
-unfoldable pub binary_digits : ℕ → ℕ
-binary_digits n = length (digits_of 2 n)
-
--- How often a call touches a queue with this number of entries, at most. (This project's rule.)
-abbrev pub most_touches : ℕ → ℕ
-most_touches count = 4 * binary_digits count + 2
-
--- The count of touches where it stays. (This project's rule.)
-abbrev pub greatest_count : ℕ
-greatest_count = 2 ^ 64 - 1
-
--- A call touched the queue at least `least` and at most `most` times, and each time counts, up to the greatest count.
--- (This project's rule.)
-pub record Touches (before after least most : ℕ) : Type 0 where
-  pub times : ℕ
-  pub many : least ≤ times
-  pub few : times ≤ most
-  pub counted : after ≡ min (before + times) greatest_count

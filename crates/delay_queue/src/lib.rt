@@ -59,6 +59,7 @@ mod entry;
 mod error;
 pub mod laws;
 mod queue;
+pub mod slots;
 
 pub use entry::Entry;
 pub use error::QueueError;

@@ -1,10 +1,11 @@
 //! The queue: a queue of slots, one for each task, whose entries have no rank.
 ghost use Rattle.std.specs.Prelude.{◌≡◌, ℕ, ◌+◌, ◌-◌, ◌<◌, ◌≤◌, ◌==◌, true, false, min, Some, None, length, replicate, slice_set, is_some, IfOk, IsOk, IfSome, IfNone};
-ghost use Rattle.delay_queue.specs.Queues.{due_in, entry_count, most_touches, greatest_count, IsLeast, IsEmpty, NoneIsDue, Touches};
+ghost use Rattle.delay_queue.specs.Queues.{due_in, entry_count, IsLeast, IsEmpty, NoneIsDue};
+ghost use Rattle.delay_queue.specs.Touches.{most_touches, greatest_count, Touches};
 
 use crate::entry::Entry;
 use crate::error::QueueError;
-use slot_queue::{NoRank, SlotQueue};
+use crate::slots::{NoRank, SlotQueue};
 use std::alloc::Allocator;
 use std::marker::Model;
 
@@ -20,7 +21,7 @@ pub struct DelayQueue<A: Allocator> {
 
 impl<A: Allocator> Model for DelayQueue<A> {
     ghost use Rattle.std.specs.Prelude.{map};
-    ghost use Rattle.slot_queue.specs.Queues.{due_by};
+    ghost use Rattle.delay_queue.specs.slots.Queues.{due_by};
     ghost use Rattle.delay_queue.specs.Queues.{Queue};
     ghost use Rattle.delay_queue.specs.own.Unranked.{IsUnranked};
 
@@ -46,7 +47,7 @@ impl<A: Allocator> DelayQueue<A> {
     {
         match SlotQueue::new(alloc, tasks) {
             Ok(slots) => Ok(DelayQueue { slots }),
-            Err(slot_queue::QueueError::Memory) => Err(QueueError::Memory),
+            Err(crate::slots::QueueError::Memory) => Err(QueueError::Memory),
         }
     }
 
@@ -151,11 +152,11 @@ impl<A: Allocator> DelayQueue<A> {
 }
 
 /// A task's entry as that of its slot.
-fn in_slot(entry: Entry) -> slot_queue::Entry<NoRank>
+fn in_slot(entry: Entry) -> crate::slots::Entry<NoRank>
     ensures due { result.due ≡ entry.due }
     ensures slot { result.slot ≡ entry.task }
 {
-    slot_queue::Entry {
+    crate::slots::Entry {
         due: entry.due,
         rank: NoRank {},
         slot: entry.task,
@@ -163,7 +164,7 @@ fn in_slot(entry: Entry) -> slot_queue::Entry<NoRank>
 }
 
 /// A slot's entry as that of the task with its number.
-fn of_task(entry: slot_queue::Entry<NoRank>) -> Entry
+fn of_task(entry: crate::slots::Entry<NoRank>) -> Entry
     ensures due { result.due ≡ entry.due }
     ensures task { result.task ≡ entry.slot }
 {

@@ -1,6 +1,7 @@
 -- What the calls on a slot speak of. (All of it is this project's rule.)
 use Rattle.std.specs.Prelude.{◌≡◌, ◌≢◌, ℕ, ◌-◌, ◌≤◌, List, [], ◌∷◌, Some, None, true, min, slice_set}
-use Rattle.delay_queue.specs.Queues.{Queue, entry_count, most_touches, IsLeast, Touches}
+use Rattle.delay_queue.specs.Queues.{Queue, entry_count, IsLeast}
+use Rattle.delay_queue.specs.Touches.{most_touches, Touches}
 use Rattle.delay_queue_c.specs.Statuses.{done, insert_status}
 use Rattle.delay_queue_c.specs.declared.entry.DqEntry.{DqEntry}
 

@@ -1,6 +1,7 @@
 //! Adding an entry.
 ghost use Rattle.std.specs.Prelude.{◌≡◌, ◌≢◌, ◌<◌, true, min, None, Some, length, slice_set};
-ghost use Rattle.delay_queue.specs.Queues.{due_in, entry_count, most_touches, Touches};
+ghost use Rattle.delay_queue.specs.Queues.{due_in, entry_count};
+ghost use Rattle.delay_queue.specs.Touches.{most_touches, Touches};
 ghost use Rattle.delay_queue_c.specs.Slots.{IsSame};
 ghost use Rattle.delay_queue_c.specs.Statuses.{done, insert_status};
 ghost use Rattle.delay_queue_c.specs.own.Told.{number_of};

@@ -1,6 +1,7 @@
 //! Taking entries out.
 ghost use Rattle.std.specs.Prelude.{◌≡◌, ◌≢◌, ℕ, ◌-◌, ◌≤◌, ◌⊎◌, true, false, min, None, slice_set};
-ghost use Rattle.delay_queue.specs.Queues.{entry_count, most_touches, IsLeast, NoneIsDue, Touches};
+ghost use Rattle.delay_queue.specs.Queues.{entry_count, IsLeast, NoneIsDue};
+ghost use Rattle.delay_queue.specs.Touches.{most_touches, Touches};
 ghost use Rattle.delay_queue_c.specs.Slots.{IsSame};
 ghost use Rattle.delay_queue_c.specs.Statuses.{done, no_entry, no_queue, look_status};
 

@@ -109,14 +109,14 @@ impl<A: Allocator> Notes<A> {
     /// `AllocError` where the memory for them is refused: no slot is noted otherwise then.
     pub(crate) fn reserve(&mut self, slots: u32) -> Result<(), AllocError>
         ensures room { OnOk result (slots ≤ self.new.slot_room) }
-        ensures index { OnOk result (2 * slots ≤ self.new.index_room) }
+        ensures index { OnOk result (3 * slots ≤ self.new.index_room) }
         ensures grows { self.old.slot_room ≤ self.new.slot_room }
         ensures free { self.new.free ≡ self.old.free }
         ensures entries { self.new.entries ≡ self.old.entries }
     {
         self.free.reserve(slots as usize)?;
-        // With twice as many entries as slots, at least every second one is stale when it is full.
-        self.index.reserve(2 * slots as usize)
+        // With three times as many entries as slots, at least two of three are stale when it is full.
+        self.index.reserve(3 * slots as usize)
     }
 
     /// Notes that the slots from one to the one before another are empty.

@@ -31,8 +31,8 @@ use std::alloc::Allocator;
 /// On [`RunError::Workers`] nothing is read, written or noted. On [`RunError::EventLine`], [`RunError::Full`] and [`RunError::Read`]
 /// the text of the answers to all lines before was written, and on [`RunError::Write`] a front of the text of some of the first
 /// lines' answers. On [`RunError::Memory`] nothing was read, written or noted, or there was no memory for a further line that makes
-/// a call, may come, and for which there is room, and the text of the answers to all lines before it was written. At most one piece was read
-/// behind the last line that was taken.
+/// a call, may come, and for which there is room, and the text of the answers to all lines before it was written. At most one piece
+/// was read behind the last line that was taken.
 pub fn run<A: Allocator, S: Source, W: Sink>(
     alloc: A,
     workers: u8,

@@ -23,7 +23,7 @@ use Rattle.plan_read.specs.declared.versions.Version.{Version}
 use Rattle.plan_read.specs.declared.versions.Version.TheVariants.{One, Two}
 use Rattle.plan_read.specs.Checks.{Passes}
 use Rattle.plan_read.specs.Keys.{fits, Key, call_keys, own_keys, has_only, has_required, are_typed, verb_of_word, which_of_word}
-use Rattle.task_name.specs.Names.{is_name}
+use Rattle.plan_read.specs.task_names.Names.{is_name}
 use Rattle.plan_read.specs.Plans.{PlanTree, find, submissions_before, moment_in_last, last_offset}
 use Rattle.plan_read.specs.Writes.{call_checks, verb_of, NamesVerb, HasPolicy, NameAt, HasName, IsNew, HasTarget, IsClear, UnitOf, HaveUnits, HasSpans, SpanAt, DelayAt, PeriodAt}
 use Rattle.plan_read.specs.own.Values.{text_or, integer_or, verb_at, name_at, op_of, written_call, target_of, span_at, period_at, unit_for, units_in, submits, found_at}

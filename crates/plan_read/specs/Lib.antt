@@ -1,6 +1,7 @@
 pub use Rattle.sched_time.specs.Times
 pub use Rattle.toml.specs.Data
-pub use Rattle.task_name.specs.Names
+pub use Rattle.plan_read.specs.task_names.Names
+pub mod task_names
 pub mod Keys
 pub mod Plans
 pub mod Checks

@@ -21,7 +21,7 @@ use Rattle.plan_read.specs.declared.versions.Version.{Version as PlanVersion}
 use Rattle.plan_read.specs.declared.versions.Version.TheVariants.{One, Two}
 use Rattle.plan_read.specs.Checks.{Check, ◌unless◌, Passes, IsFaultOf}
 use Rattle.plan_read.specs.Keys.{Key, number_of, time_keys, unit_key, top_keys, header_keys, call_keys, verb_of_word, unit_of_word, which_of_word, has_only, has_required, are_typed}
-use Rattle.task_name.specs.Names.{is_name}
+use Rattle.plan_read.specs.task_names.Names.{is_name}
 use Rattle.plan_read.specs.Plans.{BlockTree, PlanTree, most_blocks, most_block_calls, most_calls, name_of, submissions_before, find, moment_in_last, last_offset, end_of, made_by}
 
 -- ---- what stands at a key

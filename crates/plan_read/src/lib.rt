@@ -126,10 +126,12 @@ mod reading;
 mod rows;
 mod sites;
 mod subjects;
+pub mod task_names;
 mod units;
 mod verbs;
 mod versions;
 
+pub use crate::task_names::Name;
 pub use faults::{PlanFault, PlanFaultKind};
 pub use heap_allocator::HeapAllocator;
 pub use laws::{
@@ -140,4 +142,3 @@ pub use limits::LONGEST_TEXT;
 pub use migrating::migrate;
 pub use plans::{Block, Call, Op, Plan, Target};
 pub use reading::read_plan;
-pub use task_name::Name;

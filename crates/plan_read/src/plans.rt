@@ -4,10 +4,10 @@ ghost use Rattle.std.specs.Prelude.{◌≡◌};
 ghost use Rattle.plan_read.specs.Plans.{tasks_after, is_submission, IsOrdered};
 ghost use Rattle.plan_read.specs.Writes.{IsPlan};
 
+use crate::task_names::Name;
 use sched_time::{Span, Unit, Which};
 use std::alloc::Allocator;
 use std::marker::Model;
-use task_name::Name;
 
 /// A submission of a plan.
 #[derive(Clone, Copy, Debug, PartialEq, Eq)]

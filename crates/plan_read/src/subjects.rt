@@ -12,10 +12,10 @@ use crate::key_names::KeyName;
 use crate::plans::Target;
 use crate::rows::Row;
 use crate::sites::{Site, add, find};
+use crate::task_names::{Name, is_name};
 use crate::verbs::Verb;
 use std::alloc::Allocator;
 use std::collections::BTreeMap;
-use task_name::{Name, is_name};
 
 /// The operation of a call: with the name of its submission where it submits, and with its target where
 /// it cancels.

@@ -1,10 +1,10 @@
 //! Which texts are names, and what a name tells.
 
-use task_name::{Name, is_name};
+use plan_read::task_names::{Name, is_name};
 
 #[test]
 fn the_page_is_run(rt: HostRuntime) {
-    // example: task_name
+    // example: plan_read::task_names
     let text = "backup";
     assert!(rt; is_name(text));
     let name = Name::new(text); // a copy of it

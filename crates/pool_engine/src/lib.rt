@@ -65,7 +65,7 @@
 //! # Tests
 //!
 //! They stand in `pool_run_tests`: answers and texts of runs by one worker, runs by many, whose texts go through
-//! [`check`](trace_check::check), and ends that follow a script, of the crate `scripted_ends`.
+//! [`check`](trace_check::check), and ends that follow a script, of `scripted_runs::ends`.
 #![tactic(auto)]
 
 mod clocks;

@@ -10,8 +10,8 @@ use crate::calls::{Answers, Call, Row, Told, follow};
 use crate::drawn::{Draws, compare};
 use crate::full::{MANY, Order, fill, remove_all};
 use crate::plain::PlainQueue;
+use delay_queue::slots::{Entry, NoRank, QueueError, Rank, SlotQueue};
 use linked_list_allocator::LocalHeap;
-use slot_queue::{Entry, NoRank, QueueError, Rank, SlotQueue};
 use std::alloc::{AllocError, Allocator, Global};
 use std::process::Abort;
 use std::test::Fail;
@@ -104,7 +104,7 @@ fn the_least_comes_out_once_it_is_due(rt: HostRuntime) -> Result<(), Fail> {
 #[test]
 fn the_page_is_run(rt: HostRuntime) -> Result<(), Fail> {
     let alloc = rt.alloc();
-    // example: slot_queue
+    // example: delay_queue::slots
     let mut queue = SlotQueue::new(alloc, 2)?;
     queue.insert(Entry {
         due: 5,

@@ -4,9 +4,9 @@ use Rattle.std.specs.Option.{option_map}
 use Rattle.std.proofs.lemmas.Bool.Decides.{nat_tests}
 use Rattle.std.proofs.lemmas.Option.{none-some, same_Some}
 use Rattle.delay_queue.specs.Queues.{comes_before}
-use Rattle.slot_queue.specs.Entries.{Key}
-use Rattle.slot_queue.specs.Entries as entries
-use Rattle.slot_queue.specs.Queues.{key_in, IsLeast}
+use Rattle.delay_queue.specs.slots.Entries.{Key}
+use Rattle.delay_queue.specs.slots.Entries as entries
+use Rattle.delay_queue.specs.slots.Queues.{key_in, IsLeast}
 use Rattle.executor_model.proofs.Tables.{at_replicate}
 use Rattle.task_table.specs.Orders.{pair_of, keys, IsLeastKey}
 

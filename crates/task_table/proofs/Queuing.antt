@@ -3,8 +3,8 @@ use Rattle.std.proofs.Common.{◌≡◌, ℕ, ◌+◌, ◌≤◌, ◌||◌, zero
 use Rattle.std.specs.Prelude.{slice_index_or}
 use Rattle.std.specs.List.{range_with_len}
 use Rattle.std.specs.Option.{option_map}
-use Rattle.slot_queue.specs.Entries.{Key}
-use Rattle.slot_queue.specs.Queues.{key_in, entry_count}
+use Rattle.delay_queue.specs.slots.Entries.{Key}
+use Rattle.delay_queue.specs.slots.Queues.{key_in, entry_count}
 use Rattle.std.proofs.lemmas.Bool.{false≢true, false_from_ne_true}
 use Rattle.std.proofs.lemmas.List.Recursion.{is_count_by}
 use Rattle.queue_code.specs.Calls.{how_many}

@@ -10,8 +10,8 @@ use Rattle.executor_model.proofs.Tables.{at_set}
 use Rattle.sched_time.specs.Times.{longest}
 use Rattle.sched_time.specs.declared.timing.Timing.{Timing}
 use Rattle.queue_code.specs.Calls.{IsTimed}
-use Rattle.slot_queue.specs.Entries.{Key}
-use Rattle.slot_queue.specs.Queues.{with_slots}
+use Rattle.delay_queue.specs.slots.Entries.{Key}
+use Rattle.delay_queue.specs.slots.Queues.{with_slots}
 use Rattle.task_table.specs.declared.seat.Seat.{Seat}
 use Rattle.task_table.specs.Seats.{task_in, slot_of, is_alive, IsNew}
 use Rattle.task_table.specs.Tables.{TableView}

@@ -3,8 +3,8 @@
 use Rattle.std.specs.Prelude.{◌≡◌, ℕ, ◌==◌, false, if◌then◌else◌, List, Option, Some}
 use Rattle.std.specs.Option.{option_map}
 use Rattle.delay_queue.specs.Queues.{comes_before}
-use Rattle.slot_queue.specs.Entries.{Key}
-use Rattle.slot_queue.specs.Queues.{key_in}
+use Rattle.delay_queue.specs.slots.Entries.{Key}
+use Rattle.delay_queue.specs.slots.Queues.{key_in}
 
 -- a queue once this stands at a slot
 abbrev pub with_key : (ℕ → Option (ℕ × ℕ)) → ℕ → Option (ℕ × ℕ) → ℕ → Option (ℕ × ℕ)

@@ -1,10 +1,10 @@
 //! A queue in which, of entries due at one moment, the one whose task has the lowest number is first.
 ghost use Rattle.std.specs.Prelude.{◌≡◌, true, [], OnOk, OnErr, IfOk};
 ghost use Rattle.task_table.specs.Orders.{keys};
-ghost use Rattle.slot_queue.specs.Queues.{with_slots};
+ghost use Rattle.delay_queue.specs.slots.Queues.{with_slots};
 
 use crate::queues::{Entry, TaskQueue};
-use slot_queue::SlotQueue;
+use delay_queue::slots::SlotQueue;
 use std::alloc::{AllocError, Allocator};
 
 /// The entries of a [`TaskTable`](crate::TaskTable), by slot. The rank of each is the number of its task.
@@ -46,7 +46,8 @@ impl<A: Allocator> TaskQueue for NumberedQueue<A> {
     fn insert(&mut self, entry: Entry) {
         let Entry { due, number, slot } = entry;
         let rank = number;
-        self.entries.insert(slot_queue::Entry { due, rank, slot });
+        self.entries
+            .insert(delay_queue::slots::Entry { due, rank, slot });
     }
 
     #[inline(always)]

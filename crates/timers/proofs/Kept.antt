@@ -124,7 +124,7 @@ grown_by old new n grows given w =
 
 pub kept_roomy : (old new : TimersView) → MakesRoom old new → GivesNone old new
 kept_roomy old new (inl e) given w = subst (λ (v : TimersView). WereGiven v given) (sym e) w
-kept_roomy old new (inr room) given w = grown_by old new (2 * length old.live.table.slots + 4) room.2 given w
+kept_roomy old new (inr room) given w = grown_by old new room.2.slots room.2.grows given w
 
 pub grown_or_same : {T E : Type 0} (r : Result T E) (old new : TimersView) (slots : ℕ) → OnOk r (Grows old new slots) → OnErr r (new.live ≡ old.live) → OnErr r (new.user_data ≡ old.user_data) → GivesNone old new
 grown_or_same (Ok t) old new slots grows live kept given w = grown_by old new slots grows given w

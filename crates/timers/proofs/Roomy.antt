@@ -16,7 +16,7 @@ use Rattle.live_core.specs.Said as said
 use Rattle.live_core.specs.Said.{AreTaken, has_task, tasks_in}
 use Rattle.live_core.proofs.Held.{tasks_grown}
 use Rattle.timers.specs.Timers.{TimersView}
-use Rattle.timers.specs.Calls.{Submits, SlotsFor}
+use Rattle.timers.specs.Calls.{IsHalfMore, Submits, SlotsFor}
 use Rattle.timers.specs.own.Rooms.{Grows, HasRoomFor, IsReady, MakesRoom}
 
 -- what stands in a slot, where there are more
@@ -64,10 +64,10 @@ not_taken m slots more all taken =
     absurd (omega (arith, same, long, more, all, taken))
 
 -- a submission after that is one
-pub submits_grown : (m new : LiveView) (slots at : ℕ) (timing : Timing) (delay : ℕ) (s : Submitted) → slots ≡ 2 * length m.table.slots + 4 → m.table.shut ≡ false → AreTaken m.table.slots
+pub submits_grown : (m new : LiveView) (slots at : ℕ) (timing : Timing) (delay : ℕ) (s : Submitted) → IsHalfMore (length m.table.slots) slots → m.table.shut ≡ false → AreTaken m.table.slots
     → ((calls : List Planned) (past : List HistoryEntry) → Stands m calls past → Stands (growing m slots) calls past)
     → said.Submits (growing m slots) new at timing delay s → Submits m new at timing delay s
-submits_grown m new slots at timing delay s twice unshut all stands p = record {
+submits_grown m new slots at timing delay s half unshut all stands p = record {
   short = p.short;
   near = p.near;
   number = p.number;
@@ -79,13 +79,13 @@ submits_grown m new slots at timing delay s twice unshut all stands p = record {
 }
   where
     more : length m.table.slots < slots
-    more = omega (arith, twice)
+    more = omega (arith, half.0)
 
     long : length (growing m slots).table.slots ≡ slots
     long = length_grown m slots (omega (arith, more))
 
     by : (s : Submitted) → has_task s ≡ not m.table.shut → said.SlotsFor (growing m slots).table.slots new.table.slots s → SlotsFor m.table.slots new.table.slots s
-    by (su.Accepted task due) takes (inl e) = inr (all, e ∙ (long ∙ twice))
+    by (su.Accepted task due) takes (inl e) = inr (all, (omega (arith, e, long, half.0), omega (arith, e, long, half.1)))
     by (su.Accepted task due) takes (inr most) = absurd (not_taken m slots more all most.0)
     by (su.Rejected number) takes same = absurd (false≢true (takes ∙ ap not unshut))
 
@@ -117,16 +117,16 @@ pub are_taken : (slots : List (Option Seat)) (tasks n : ℕ) → tasks ≡ tasks
 are_taken slots tasks n count long all = let few = tasks_few slots in omega (arith, count, long, all, few)
 
 -- there is room, or nothing has changed
-pub room_made : {T E : Type 0} (r : Result T E) (old new : TimersView) (n : ℕ) → n ≡ length old.live.table.slots → old.live.table.shut ≡ false → AreTaken old.live.table.slots
-    → OnOk r (Grows old new (2 * n + 4)) → OnErr r (new.live ≡ old.live) → OnErr r (new.user_data ≡ old.user_data) → MakesRoom old new
-room_made (Ok t) old new n is unshut all grows live kept = inr (unshut, all, subst (λ (k : ℕ). Grows old new (2 * k + 4)) is grows)
-room_made (Err e) old new n is unshut all grows live kept = inl (ap (λ (v : LiveView). record new { live = v }) live ∙ ap (λ (d : List ℕ). record old { user_data = d }) kept)
+pub room_made : {T E : Type 0} (r : Result T E) (old new : TimersView) (n slots : ℕ) → n ≡ length old.live.table.slots → IsHalfMore n slots → old.live.table.shut ≡ false → AreTaken old.live.table.slots
+    → OnOk r (Grows old new slots) → OnErr r (new.live ≡ old.live) → OnErr r (new.user_data ≡ old.user_data) → MakesRoom old new
+room_made (Ok t) old new n slots is half unshut all grows live kept = inr (unshut, all, record { slots = slots; half = subst (λ (k : ℕ). IsHalfMore k slots) is half; grows = grows })
+room_made (Err e) old new n slots is half unshut all grows live kept = inl (ap (λ (v : LiveView). record new { live = v }) live ∙ ap (λ (d : List ℕ). record old { user_data = d }) kept)
 
 -- not each slot is taken then
-pub room_there : {T E : Type 0} (r : Result T E) (old new : TimersView) (n : ℕ) → n ≡ length old.live.table.slots → AreTaken old.live.table.slots
-    → OnOk r (Grows old new (2 * n + 4)) → OnOk r (AreTaken new.live.table.slots → ⊥)
-room_there (Ok t) old new n is all grows = λ taken. not_taken old.live (2 * n + 4) (omega (arith, is)) all (subst (λ (v : LiveView). AreTaken v.table.slots) grows.live taken)
-room_there (Err e) old new n is all grows = tt
+pub room_there : {T E : Type 0} (r : Result T E) (old new : TimersView) (n slots : ℕ) → n ≡ length old.live.table.slots → IsHalfMore n slots → AreTaken old.live.table.slots
+    → OnOk r (Grows old new slots) → OnOk r (AreTaken new.live.table.slots → ⊥)
+room_there (Ok t) old new n slots is half all grows = λ taken. not_taken old.live slots (omega (arith, is, half.0)) all (subst (λ (v : LiveView). AreTaken v.table.slots) grows.live taken)
+room_there (Err e) old new n slots is half all grows = tt
 
 pub always_on_err : {T E : Type 0} {P : Type 0} (r : Result T E) → P → OnErr r P
 always_on_err (Ok t) p = tt
@@ -171,9 +171,8 @@ submits_after old mid new at delay timing s (inl e) ready p =
       slots = same_slots mid.live new s (same_size mid.live new at delay timing s ready p) p.slots;
     })
 submits_after old mid new at delay timing s (inr room) ready p =
-    let grows = room.2 in
-    let n = 2 * length old.live.table.slots + 4 in
-    submits_grown old.live new n at timing delay s refl room.0 room.1
+    let grows = room.2.grows in
+    submits_grown old.live new room.2.slots at timing delay s room.2.half room.0 room.1
     (λ calls past here. subst (λ (v : LiveView). Stands v calls past) grows.live (grows.stands calls past here))
     (subst (λ (v : LiveView). said.Submits v new at timing delay s) grows.live p)
 
@@ -181,4 +180,4 @@ submits_after old mid new at delay timing s (inr room) ready p =
 pub stays_after : (old mid : TimersView) (new : LiveView) → MakesRoom old mid → StaysQuiet mid.live new (mid.live.count + 1) → StaysQuiet old.live new (old.live.count + 1)
 stays_after old mid new (inl e) q = subst (λ (v : TimersView). StaysQuiet v.live new (v.live.count + 1)) e q
 stays_after old mid new (inr room) q =
-    stays_grown old.live new (2 * length old.live.table.slots + 4) (subst (λ (v : LiveView). StaysQuiet v new (v.count + 1)) room.2.live q)
+    stays_grown old.live new room.2.slots (subst (λ (v : LiveView). StaysQuiet v new (v.count + 1)) room.2.grows.live q)

@@ -1,13 +1,14 @@
 //! Room for one more task, and for its data.
-ghost use Rattle.std.specs.Prelude.{◌≡◌, ◌<◌, length, false, OnOk, OnErr};
+ghost use Rattle.std.specs.Prelude.{◌≡◌, ◌<◌, ◌^◌, length, false, OnOk, OnErr};
 ghost use Rattle.live_core.specs.Said.{AreTaken};
+ghost use Rattle.timers.specs.Calls.{IsHalfMore};
 ghost use Rattle.timers.specs.own.Rooms.{Grows, MakesRoom, seen};
 
 use live_core::ScheduledExecutor;
 use std::alloc::{AllocError, Allocator};
 
-/// Makes room for one more task, where the executor is not shut. Where each slot holds a task, there are twice as many slots then,
-/// and four.
+/// Makes room for one more task, where the executor is not shut. Where each slot holds a task, there are half as many slots more
+/// then, and four.
 ///
 /// # Errors
 ///
@@ -33,7 +34,15 @@ pub(crate) fn make_room<A: Allocator>(
     if slots >= 1073741824 {
         return Err(AllocError);
     }
-    grow(executor, user_data, 2 * slots as u32 + 4)
+    grow(executor, user_data, half_more(slots as u32))
+}
+
+/// Half as many slots more, and four.
+fn half_more(slots: u32) -> u32
+    requires { slots < 2 ^ 30 }
+    ensures { IsHalfMore slots result }
+{
+    slots + slots / 2 + 4
 }
 
 /// Makes room for so many slots in all.

@@ -1,7 +1,7 @@
 -- How a queue is kept: as a queue of slots, whose entries have no rank. All of it is this project's rule.
 use Rattle.std.specs.Prelude.{◌≡◌, ℕ, List, map, Option, Some, None}
-use Rattle.slot_queue.specs.Entries.{Key}
-use Rattle.slot_queue.specs.Queues.{due_by}
+use Rattle.delay_queue.specs.slots.Entries.{Key}
+use Rattle.delay_queue.specs.slots.Queues.{due_by}
 
 -- the key of an entry that is due at a moment
 abbrev pub key_due : ℕ → Key

@@ -18,7 +18,7 @@ use Rattle.plan_read.specs.declared.units.Units.{Units}
 use Rattle.plan_read.specs.declared.versions.Version.{Version as PlanVersion}
 use Rattle.plan_read.specs.declared.versions.Version.TheVariants.{One, Two}
 use Rattle.plan_read.specs.Keys.{Key, time_keys, unit_key, top_keys, header_keys, call_keys, verb_of_word, unit_of_word, has_only, has_required, are_typed}
-use Rattle.task_name.specs.Names.{is_name}
+use Rattle.plan_read.specs.task_names.Names.{is_name}
 use Rattle.plan_read.specs.Plans.{PlanTree, most_blocks, most_block_calls, most_calls, moment_in_last, last_offset, end_of, made_by}
 use Rattle.plan_read.specs.own.Values.{given_integer, text_or, tables_at, is_negative, span_at, units_in, header_units, times_at, header_of, verb_at, name_at, found_at, next_call, block_of, version_of, version_at}
 

@@ -12,6 +12,7 @@ use Rattle.live_core.specs.declared.answers.Submitted.TheVariants as su
 use Rattle.live_core.specs.Lives.{LiveView, Stands, moment_of_call}
 use Rattle.live_core.specs.Said.{AreTaken}
 use Rattle.timers.specs.Timers.{TimersView}
+use Rattle.timers.specs.Calls.{IsHalfMore}
 
 -- there are so many slots, and data for each, where the new ones are empty
 pub record Grows (old new : TimersView) (slots : ℕ) : Type 0 where
@@ -20,9 +21,15 @@ pub record Grows (old new : TimersView) (slots : ℕ) : Type 0 where
   pub size : length new.user_data ≡ length new.live.table.slots
   pub stands : (calls : List Planned) (past : List HistoryEntry) → Stands old.live calls past → Stands new.live calls past
 
--- nothing has changed; or the executor is not shut, and each slot held a task, and now there are twice as many, and four
+-- there are half as many slots more
+pub record GrowsByHalf (old new : TimersView) : Type 0 where
+  pub slots : ℕ
+  pub half : IsHalfMore (length old.live.table.slots) slots
+  pub grows : Grows old new slots
+
+-- nothing has changed; or the executor is not shut, and each slot held a task, and now there are half as many more
 abbrev pub MakesRoom : TimersView → TimersView → Type 0
-MakesRoom old new = (new ≡ old) ⊎ ((old.live.table.shut ≡ false) × AreTaken old.live.table.slots × Grows old new (2 * length old.live.table.slots + 4))
+MakesRoom old new = (new ≡ old) ⊎ ((old.live.table.shut ≡ false) × AreTaken old.live.table.slots × GrowsByHalf old new)
 
 -- an executor with the data in its slots
 abbrev pub seen : LiveView → List ℕ → TimersView

@@ -13,7 +13,7 @@ returns-clause-made g c =
     let t = c.args.executor.now.table in
     let is : c.len-slots.result ≡ length t.slots = omega (arith, c.len-slots.ensures, c.args.user_data.now.ok.0, c.requires.size) in
     let all : AreTaken t.slots = are_taken t.slots c.len.result c.len-slots.result c.len.ensures.tasks is c.if-len-slots.false in
-    room_made c.grow.result (seen c.args.executor.now c.args.user_data.now.items) (seen c.grow.new.executor c.grow.new.user_data.items) c.len-slots.result is c.requires.unshut all
+    room_made c.grow.result (seen c.args.executor.now c.args.user_data.now.items) (seen c.grow.new.executor c.grow.new.user_data.items) c.len-slots.result c.half_more.result is c.half_more.ensures c.requires.unshut all
     c.grow.ensures.grown c.grow.ensures.executor c.grow.ensures.user_data
 
 pub returns-clause-room : goal.returns-clause-room
@@ -21,7 +21,7 @@ returns-clause-room g c =
     let t = c.args.executor.now.table in
     let is : c.len-slots.result ≡ length t.slots = omega (arith, c.len-slots.ensures, c.args.user_data.now.ok.0, c.requires.size) in
     let all : AreTaken t.slots = are_taken t.slots c.len.result c.len-slots.result c.len.ensures.tasks is c.if-len-slots.false in
-    room_there c.grow.result (seen c.args.executor.now c.args.user_data.now.items) (seen c.grow.new.executor c.grow.new.user_data.items) c.len-slots.result is all c.grow.ensures.grown
+    room_there c.grow.result (seen c.args.executor.now c.args.user_data.now.items) (seen c.grow.new.executor c.grow.new.user_data.items) c.len-slots.result c.half_more.result is c.half_more.ensures all c.grow.ensures.grown
 
 pub returns-clause-full : goal.returns-clause-full
 returns-clause-full g c =

@@ -1,6 +1,6 @@
 -- The entry goes into the slot of its task.
 use Rattle.std.proofs.Common.{◌≡◌, ℕ, min, map, List, Option, Some, set, ap, ◌∙◌}
-use Rattle.slot_queue.specs.Entries.{Key}
+use Rattle.delay_queue.specs.slots.Entries.{Key}
 use Rattle.delay_queue.specs.Queues.{Queue}
 use Rattle.delay_queue.specs.own.Unranked.{key_due, keys_by}
 use Rattle.delay_queue.specs.declared.entry.Entry.{Entry}
