@@ -5,7 +5,7 @@ use Rattle.std.proofs.lemmas.List.{get_or-take, length-take, take-append-drop, t
 use Rattle.std.proofs.lemmas.List.Elements.{All-from_get_or}
 use Rattle.memchr.specs.Find.{Nowhere, Passes, is_byte}
 use Rattle.trace_text.specs.Spelling.{IsLine}
-use Rattle.line_reasons.specs.Events.{IsFirstLine}
+use Rattle.line_reasons.specs.Texts.{IsFirstLine}
 
 -- bytes before which no newline was found
 line_before : (bytes : List ℕ) (n : ℕ) → n ≤ length bytes → Nowhere (Passes (is_byte 10) bytes) 0 n → IsLine (take n bytes)

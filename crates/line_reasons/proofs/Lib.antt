@@ -1,4 +1,6 @@
-mod EventTexts
+mod LineTexts
+mod LineKinds
+mod PlaceFaults
 mod FirstLines
 mod NumberFaults
 mod LineFaults

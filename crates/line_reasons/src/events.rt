@@ -1,17 +1,21 @@
-//! The first line of a text that is no event's.
+//! The first line of a text that is no event's, or no event's and no call's.
 
 ghost use Rattle.std.specs.Prelude.{◌≡◌, None, IfNone, IfSome};
-ghost use Rattle.line_reasons.specs.Events.{AreEvents, IsFirstLine, IsFirstOther};
+ghost use Rattle.line_reasons.specs.Texts.{AreLines, IsFirstLine, IsFirstOtherThan};
+ghost use Rattle.line_reasons.specs.Events.{AreEvents, IsFirstOther};
+ghost use Rattle.line_reasons.specs.LiveLines.{AreLiveLines, IsFirstNotLive};
+ghost use Rattle.line_reasons.specs.own.Kinds.{FitsIn, spelling};
 
-use crate::event_fault::{EventFault, event_fault};
+use crate::event_fault::EventFault;
+use crate::event_words::event_fault;
+use crate::lines::Lines;
 use crate::shown::Quoted;
 use memchr::memchr;
 use near_words::FileName;
 use std::alloc::Allocator;
 use std::fmt;
-use trace_text::split_event;
 
-/// Why a text is not that of events: its first line that is no event's, and why it is none.
+/// Why a text is not that of events, or of the lines of a live run: its first line that is none of these, and why it is none.
 ///
 /// It prints as one line without its newline: `line 3, "clock 05": leading zero; a moment has none, as in "clock 5"`.
 #[derive(Clone, Copy, Debug, PartialEq, Eq)]
@@ -31,12 +35,34 @@ pub fn reason_of_events<A: Allocator + Copy>(alloc: A, text: &[u8]) -> Option<Ev
     ensures only { AreEvents text.now → result ≡ None }
     ensures first { IfSome result (λ r. IsFirstOther text.now r.number r.line.now) }
 {
+    first_other(alloc, Lines::Events, text)
+}
+
+/// Why a text is not that of the lines of a live run, each an event's or a call's; none where it is that.
+///
+/// A text of no line is that of no events and no calls. A word that may be meant is told only where there is memory to look for
+/// it.
+pub fn reason_of_live_lines<A: Allocator + Copy>(alloc: A, text: &[u8]) -> Option<EventsReason<'_>>
+    ensures fine { IfNone result (AreLiveLines text.now) }
+    ensures only { AreLiveLines text.now → result ≡ None }
+    ensures first { IfSome result (λ r. IsFirstNotLive text.now r.number r.line.now) }
+{
+    first_other(alloc, Lines::Live, text)
+}
+
+/// Why a text is not that of such lines; none where it is that.
+fn first_other<A: Allocator + Copy>(alloc: A, lines: Lines, text: &[u8]) -> Option<EventsReason<'_>>
+    ensures fine { IfNone result (AreLines (spelling lines) (FitsIn lines) text.now) }
+    ensures only { AreLines (spelling lines) (FitsIn lines) text.now → result ≡ None }
+    ensures first { IfSome result
+        (λ r. IsFirstOtherThan (spelling lines) (FitsIn lines) text.now r.number r.line.now) }
+{
     let mut rest = text;
     let mut number = 1;
     while !rest.is_empty() {
-        let Some((_, behind)) = split_event(rest) else {
+        let Some(behind) = lines.behind_first(rest) else {
             let line = first_line(rest);
-            let fault = event_fault(alloc, line);
+            let fault = event_fault(alloc, lines, line);
             return Some(EventsReason {
                 number,
                 line,

@@ -1,4 +1,4 @@
-//! Why a line cannot be read, in words: a line of events, and any line.
+//! Why a line cannot be read, in words: a line of events, a line of a live run, and any line.
 //!
 //! # Usage
 //!
@@ -9,6 +9,12 @@
 //! let wanted = "events.txt:2: \"clock 05\": leading zero; a moment has none, as in \"clock 5\"";
 //! assert_eq!(rt; told.as_str(), wanted);
 //!
+//! assert!(rt; reason_of_live_lines(alloc, b"start 0\ncall ask\n").is_none());
+//! let reason = reason_of_live_lines(alloc, b"call rate 5\n").ok_or("no reason")?;
+//! let told = reason.to_string(alloc)?;
+//! let wanted = "line 1, \"call rate 5\": too short; call rate F P";
+//! assert_eq!(rt; told.as_str(), wanted);
+//!
 //! assert_eq!(rt; line_fault(b"5  clock\n"), LineFault::TwoSpaces);
 //! assert_eq!(rt; number_fault(b"5ms", 255), Some(NumberFault::Unit));
 //! ```
@@ -17,6 +23,8 @@
 //!
 //! [`reason_of_events`] answers `None` exactly where a text is the text of events, each a line, and else an [`EventsReason`]:
 //! the first line that is no event's, its number, counted from 1, and its fault. The empty text is that of no events.
+//! [`reason_of_live_lines`] answers so of the lines of a live run, in which those of calls, as [`call_text`] spells them, stand
+//! beside those of events.
 //!
 //! A reason prints as one line, `line N, LINE: WHAT IS WRONG; WHAT IS WANTED`, or with a file's name as `FILE:N: LINE: ..`. The
 //! line stands there in quotes without its newline, cut at 40 characters, with escapes for control characters, for others that
@@ -38,10 +46,25 @@
 //! | `Number`, `Sign` | `sign; a moment has none, as in "clock 5"` |
 //! | `Number`, `LeadingZero` | `leading zero; a moment has none, as in "clock 5"` |
 //! | `Number`, `Unit` | `unit; a worker has none, as in "start 0"`; of `5ms`, and of `5 ms` |
-//! | `Number`, `TooLarge` | `too large; a worker is at most 255` |
+//! | `Number`, `TooLarge` | `too large; a worker is at most 63` |
 //! | `Number`, `NoNumber` | `no number; a moment is wanted, as in "clock 5"` |
+//! | `TooSmall` | `too small; a period is at least 1, as in "call rate 5 10"` |
 //! | `Missing` | `too short; finish W ok V or finish W fail C` |
 //! | `Surplus` | `more behind its end; clock T` |
+//!
+//! A worker is told as too large where it is above 255: one of 64 to 255 is of no use, and yet its line is an event's.
+//!
+//! Among the lines of a live run calls are told of as events are, as `too short; call fixed F D`. Others are told so:
+//!
+//! | Line | What is wrong; what is wanted |
+//! |---|---|
+//! | none of it but its newline: `NoWord` | `empty; one of clock, start, finish, cancel, call` |
+//! | `clok 5` | `"clok" is no event or call; clock may be meant; one of ..` |
+//! | `call` | `too short; call and one of schedule, execute, ..` |
+//! | `call shedule 5` | `"shedule" is no call; schedule may be meant; one of schedule, execute, ..` |
+//! | `call schedule 5ms` | `unit; a delay has none and is in nanoseconds, as in "call schedule 5"` |
+//! | `call policy remov true` | `"remov" is no policy; remove may be meant; one of continue, execute, remove` |
+//! | `call policy remove yes` | `"yes" is no value; one of true, false` |
 //!
 //! A word may be meant as [`near_words`] has it: where it is the one that stands there but for the case of its ASCII letters, as
 //! `clock` by `CLOCK`, and else where two edits at most lead to it. Of those that it finds the first is told.
@@ -58,11 +81,12 @@
 //!
 //! That there is no reason exactly where the text is that of events (`AreEvents`), and that the line of a reason is the first
 //! line of its text that is no event's, with its number: the lines before it are those of events, and no event's line stands in
-//! front of what follows them (`IsFirstOther`).
+//! front of what follows them (`IsFirstOther`). Of the lines of a live run the same (`AreLiveLines`, `IsFirstNotLive`).
 //!
 //! [`number_fault`] answers `None` exactly where its word is the decimal text of a number of at most `most` (`IsNumber`), and
-//! else the one fault that is so of the word (`IsNumberFault`). [`EventNumber::most`] is the greatest number that fits in its
-//! place in an event's line (`FitsNumber`).
+//! else the one fault that is so of the word (`IsNumberFault`). From [`EventNumber::least`] to [`EventNumber::most`] are the
+//! numbers that fit in their place in a line (`FitsNumber`), and up to [`EventNumber::most_of_use`] those of them that are of use
+//! (`IsOfUse`).
 //!
 //! [`line_fault`] answers the first fault of the line's form, in the order of the table, and where none is so the first word
 //! that would be a number, with its fault, and else `NoSuchLine` (`IsLineFault`).
@@ -75,22 +99,28 @@
 //!
 //! # Memory and cost
 //!
-//! A text is read once, up to its first line that is no event's, and that line some times more. Memory is taken only to look for
-//! words that may be meant, a few words for each, and given back. A reason borrows from the text.
+//! A text is read once, up to its first other line, and that line some times more. Memory is taken only to look for words that
+//! may be meant, a few words for each, and given back. A reason borrows from the text.
 #![tactic(auto)]
 
+mod call_form;
+mod call_words;
 mod choice;
 mod event_fault;
+mod event_words;
 mod events;
 mod form;
 mod line;
+mod lines;
 mod number;
 mod shown;
+mod word_fault;
 mod words;
 
+pub use call_form::{CallForm, CallNumber};
 pub use choice::Choice;
 pub use event_fault::EventFault;
-pub use events::{EventsReason, EventsReasonInFile, reason_of_events};
+pub use events::{EventsReason, EventsReasonInFile, reason_of_events, reason_of_live_lines};
 pub use form::{EventNumber, Form};
 pub use line::{LineFault, line_fault};
 pub use near_words::FileName;

@@ -1,4 +1,4 @@
-//! Tests of the reasons that are told of plans, of events and of traces: places in a text, near words, faults.
+//! Tests of the reasons that are told of plans, of lines and of traces, and of warnings: places in a text, near words, faults.
 #![tactic(auto)]
 
 #[cfg(test)]
@@ -15,3 +15,5 @@ mod plan_texts;
 mod tables;
 #[cfg(test)]
 mod trace_faults;
+#[cfg(test)]
+mod warnings;

@@ -2,6 +2,7 @@
 mod endings;
 mod events;
 mod lines;
+mod live;
 mod memory;
 mod numbers;
 mod places;

@@ -32,13 +32,13 @@ clock 5 us now | unit; a moment has none and is in nanoseconds, as in \"clock 5\
 
 pub const LARGE_NUMBERS: &str = "\
 clock 18446744073709551616 | too large; a moment is at most 18446744073709551615
-start 256 | too large; a worker is at most 255
-finish 256 ok 7 | too large; a worker is at most 255
+start 256 | too large; a worker is at most 63
+finish 256 ok 7 | too large; a worker is at most 63
 finish 0 ok 18446744073709551616 | too large; a value is at most 18446744073709551615
 finish 0 fail 4294967296 | too large; a code is at most 4294967295
 cancel 4294967296 | too large; a task is at most 4294967295
 cancel 99999999999999999999999999999999999 | too large; a task is at most 4294967295
-start 256 ms | too large; a worker is at most 255
+start 256 ms | too large; a worker is at most 63
 ";
 
 pub const NO_NUMBERS: &str = "\

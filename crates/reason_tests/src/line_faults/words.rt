@@ -5,6 +5,7 @@ tick 5 | \"tick\" is no event; one of clock, start, finish, cancel
 5 clock | \"5\" is no event; one of clock, start, finish, cancel
 CLICKS 5 | \"CLICKS\" is no event; one of clock, start, finish, cancel
 shutdown | \"shutdown\" is no event; one of clock, start, finish, cancel
+call ask | \"call\" is no event; one of clock, start, finish, cancel
 ";
 
 pub const NEAR_THOSE_OF_EVENTS: &str = "\

@@ -3,7 +3,7 @@ use Rattle.std.specs.Prelude.{Contains}
 use Rattle.trace_text.specs.Reading.{EndsNumber}
 use Rattle.line_reasons.specs.Numbers.{units}
 use Rattle.line_reasons.specs.declared.number.NumberFault.TheVariants as fault
-use Rattle.line_reasons.proofs.EventTexts.{some_left}
+use Rattle.line_reasons.proofs.LineTexts.{some_left}
 use Rattle.line_reasons.proofs.NumberFaults.{denied, no_sign, none_in_front, unit_behind, other_behind, digits_alone, number_of_digits, alone}
 use Rattle.line_reasons.proofs.number.number_fault.Goals.{then-is_before_digit-via-then-is_before_digit, then-is_before_digit-via-else-is_before_digit+then-is_before_digit-2}
 use Rattle.line_reasons.proofs.number.number_fault.Goals as goal

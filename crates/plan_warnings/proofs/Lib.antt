@@ -1,0 +1,9 @@
+mod Cancelling
+mod Found
+mod Numbered
+mod Positions
+mod Placing
+mod Refusing
+mod Steps
+mod Tables
+mod Walks
