@@ -28,7 +28,7 @@ VECTOR = re.compile(r"%[xyz]mm")
 TOP = Path(__file__).resolve().parents[2]
 # What the documents have to say of the program's machines and of the libraries'.
 STATED = {
-    "README.md": "for Linux on x86-64-v{level} with glibc {program}, or {libraries} without the program",
+    "README.md": "for Linux on x86-64-v{level} with glibc {program} ({libraries} without the program)",
     "docs/EMBEDDING.md": "The program needs glibc {program} and the libraries {libraries}, both a processor of level {level} of x86-64",
 }
 
