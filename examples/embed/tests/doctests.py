@@ -10,8 +10,8 @@ TOP = PYTHON.parent.parent.parent
 PAGES = ["docs/EMBEDDING.md"]
 # What shows what it does by examples. What has the calls of a header alone, or only types, has
 # none.
-SHOWN = ["", "._numbers", ".delay_queue", ".errors", ".executor", ".scheduled_pool", ".timers",
-         ".timers_answers"]
+SHOWN = ["", "._numbers", "._sleepers", "._spans", ".delay_queue", ".errors", ".executor",
+         ".scheduled_pool", ".timers", ".timers_answers"]
 
 
 def modules():

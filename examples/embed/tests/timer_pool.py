@@ -6,54 +6,21 @@ is left out, which is told.
 """
 
 import concurrent.futures
-import contextlib
+import datetime
+import fractions
 import gc
-import os
 import queue
 import random
 import re
-import subprocess
 import sys
 import threading
 import time
-import traceback
-import weakref
-from unittest import mock
 
-from recorded_timers import PYTHON, Recorded, end_with_traces, found, refuses
-from sched_timers import ScheduledThreadPoolExecutor, scheduled_pool
-from sched_timers.timers import RejectedError, Timers
-
-PATIENCE = 60   # seconds for what has to come, after which it counts as lost
-
-
-@contextlib.contextmanager
-def pool_of(workers, kind=Timers):
-    """A pool over timers of this kind. At the end it is shut down at once, and has to end."""
-    with mock.patch.object(scheduled_pool, "Timers", kind):
-        pool = ScheduledThreadPoolExecutor(workers)
-    try:
-        yield pool
-    finally:
-        pool.shutdown(wait=False, cancel_futures=True)
-    assert pool.await_termination(PATIENCE) and pool.is_terminated and pool.is_shutdown
-    assert not pool._jobs, pool._jobs
-
-
-def wait_until(condition):
-    """Waits for what has to come."""
-    deadline = time.monotonic() + PATIENCE
-    while not condition():
-        assert time.monotonic() < deadline, "it never came"
-        time.sleep(0.001)
-
-
-def held(pool):
-    """Holds up a worker of a pool until the event that is answered is set."""
-    begun, going = threading.Event(), threading.Event()
-    pool.submit(lambda: (begun.set(), going.wait(PATIENCE)))
-    assert begun.wait(PATIENCE)
-    return going
+from recorded_timers import Recorded, end_with_traces, found
+from sched_timers import ScheduledThreadPoolExecutor
+from sched_timers.timers import (NotASpanError, RejectedError, SpanError, SpanTooLongError,
+                                 ZeroPeriodError)
+from tried_pools import PATIENCE, held, pool_of, refuses, try_all, wait_until
 
 
 def order():
@@ -68,7 +35,8 @@ def order():
         futures = [pool.schedule(delay, note, place) for place, delay in enumerate(delays)]
         going.set()
         concurrent.futures.wait(futures, PATIENCE)
-        dues = [int(words[-1]) for words in pool._timers.words() if words[1] == "submit"][1:]
+        lines = pool._workers.timers.words()
+        dues = [int(words[-1]) for words in lines if words[1] == "submit"][1:]
         assert [place for place, _ in begun] == sorted(range(len(delays)), key=dues.__getitem__)
         assert all(moment >= first + max(delays[place], 0) for place, moment in begun)
 
@@ -95,7 +63,8 @@ def beside():
 
             def beat(pool=pool, beats=beats, workers=workers):
                 begun = time.monotonic()
-                wait_until(lambda: pool._leader is not None or workers == 1 or len(beats) >= 5)
+                sleepers = pool._workers.sleepers
+                wait_until(lambda: sleepers.leader is not None or workers == 1 or len(beats) >= 5)
                 beats.append(begun)
 
             far, first = pool.schedule(3600, print), time.monotonic()
@@ -134,7 +103,7 @@ def rates():
         wait_until(lambda: len(begun) >= 15)
         assert future.cancel() and future.cancelled()
         assert all(moment >= first + 0.02 + 0.01 * run for run, moment in enumerate(begun)), begun
-        starts = [words for words in pool._timers.words()
+        starts = [words for words in pool._workers.timers.words()
                   if words[1] == "start" and words[3:5] == ["task", "0"]]
         dues = [int(words[-1]) for words in starts]
         assert [due - dues[0] for due in dues] == [10_000_000 * run for run in range(len(dues))]
@@ -355,9 +324,6 @@ def endless():
         going.set()
         assert pool.await_termination(PATIENCE) and pool.is_terminated and job.done()
         assert isinstance(refuses(RuntimeError, pool.submit, print), RejectedError)
-    with pool_of(1) as pool:
-        assert isinstance(pool.submit(pool.shutdown).exception(PATIENCE), RuntimeError)
-        assert pool.is_shutdown
 
 
 def slow():
@@ -371,7 +337,7 @@ def slow():
         going.set()
         concurrent.futures.wait(futures, PATIENCE)
         pulse.cancel()
-        dues = [int(words[-1]) for words in pool._timers.words()
+        dues = [int(words[-1]) for words in pool._workers.timers.words()
                 if words[1] == "start" and words[3] == "task"]
         assert sorted(ran) == list(range(40)) and dues == sorted(dues) and len(dues) >= 1 + 4 + 40
 
@@ -399,13 +365,63 @@ def failures():
         assert isinstance(pool.submit(sys.exit, 3).exception(PATIENCE), SystemExit)
         refuses(ZeroDivisionError, pool.schedule(0.001, divmod, 1, 0).result, PATIENCE)
         assert pool.submit(pow, 2, 3).result(PATIENCE) == 8
-        for call, *words in [
-            (pool.schedule, float("nan")), (pool.schedule, float("inf")), (pool.schedule, 1e10),
-            (pool.schedule, 1e30), (pool.schedule_at_fixed_rate, 1, 0),
-            (pool.schedule_at_fixed_rate, 1, -1), (pool.schedule_with_fixed_delay, 1, 0),
-            (pool.schedule_with_fixed_delay, 1, 1e-10),
+
+
+def spans():
+    """A span that is too long, too short or no number is refused, in the words of the caller. One
+    below 0 counts as 0."""
+    longest = "4611686018.427387904 seconds, which are 2^62 nanoseconds"
+    with pool_of(2) as pool:
+        calls = [pool.schedule, lambda span, call: pool.schedule_at_fixed_rate(span, 1, call),
+                 lambda span, call: pool.schedule_at_fixed_rate(1, span, call),
+                 lambda span, call: pool.schedule_with_fixed_delay(1, span, call)]
+        for span, shown in [
+            (1e12, "1000000000000.0"), (1e300, "1e+300"), (float("inf"), "inf"),
+            (4611686019, "4611686019"), (10**400, "2**1328 or more"),
+            (10**5000, "2**16609 or more"), (fractions.Fraction(10**11), "100000000000"),
         ]:
-            refuses(ValueError, call, *words, print)
+            for call in calls:
+                refused = refuses(SpanTooLongError, call, span, print)
+                assert isinstance(refused, SpanError) and isinstance(refused, ValueError)
+                assert refused.span == span
+                wanted = f"a span of {shown} seconds is above the longest, {longest}"
+                assert str(refused) == wanted, refused
+        for call in calls:
+            refused = refuses(NotASpanError, call, float("nan"), print)
+            assert str(refused) == "nan seconds are no span" and isinstance(refused, ValueError)
+        for period in (0, -1, 1e-10, float("-inf")):
+            for call in calls[2:]:
+                refused = refuses(ZeroPeriodError, call, period, print)
+                assert str(refused) == (f"a period, or a delay between runs, of {period} seconds "
+                                        "is less than 1 nanosecond")
+        assert pool.counts() == (0, 0, False, False)
+        for delay in (-1, -1e300, -10**400, float("-inf"), 0, 1e-12, fractions.Fraction(-1, 3)):
+            assert pool.schedule(delay, pow, 2, 3).result(PATIENCE) == 8
+        assert pool.schedule(4611686018, print).cancel()
+
+
+def remaining():
+    """How long a task waits still: below 0 where its run is late or under way, and None once it is
+    over."""
+    with pool_of(1) as pool:
+        far = pool.schedule(3600, print)
+        assert 3590 < far.remaining() <= 3600
+        going = held(pool)
+        late = pool.schedule(0.001, print)
+        wait_until(lambda: late.remaining() < 0)
+        pulse = pool.schedule_at_fixed_rate(0.001, 3600, print, end="")
+        wait_until(lambda: pulse.remaining() < 0)
+        going.set()
+        wait_until(lambda: pulse.remaining() > 3000)
+        assert late.result(PATIENCE) is None and late.remaining() is None
+        for future in (far, pulse):
+            assert future.cancel() and future.remaining() is None
+        begun, going = threading.Event(), threading.Event()
+        running = pool.submit(lambda: (begun.set(), going.wait(PATIENCE)))
+        begun.wait(PATIENCE)
+        assert running.remaining() <= 0
+        going.set()
+        assert running.result(PATIENCE) and running.remaining() is None
 
 
 def kinds():
@@ -416,12 +432,14 @@ def kinds():
             (pool.schedule, "1"), (pool.schedule, None), (pool.schedule, True),
             (pool.schedule_at_fixed_rate, 1, "1"), (pool.schedule_at_fixed_rate, False, 1),
             (pool.schedule_with_fixed_delay, 1, True),
+            (pool.schedule, datetime.timedelta(seconds=1)),
         ]:
-            refuses(TypeError, call, *words, print)
+            refused = refuses(TypeError, call, *words, print)
+            assert str(refused).startswith("a number of seconds is wanted, not "), refused
         for call, *words in [(pool.submit, 5), (pool.schedule, 1, None), (pool.submit,)]:
             refuses(TypeError, call, *words)
         refuses(TypeError, setattr, pool, "continues_periodic", 1)
-        assert pool.counts() == (0, 0, False, False) and not pool._jobs
+        assert pool.counts() == (0, 0, False, False) and not pool._workers.jobs
         assert not pool.continues_periodic
         shown = "'ScheduledThreadPoolExecutor-[0-9]+' workers=2 tasks=0"
         assert re.fullmatch(f"<ScheduledThreadPoolExecutor {shown}>", repr(pool)), pool
@@ -429,7 +447,7 @@ def kinds():
         assert re.fullmatch(f"<ScheduledThreadPoolExecutor {shown} shut>", repr(pool)), pool
     for workers in (0, 65, -1):
         refuses(ValueError, ScheduledThreadPoolExecutor, workers)
-    for workers in (1.5, "2", None, True):
+    for workers in (1.5, "2", True):
         refuses(TypeError, ScheduledThreadPoolExecutor, workers)
 
 
@@ -459,37 +477,12 @@ def drops():
         gc.enable()
 
 
-def threads():
-    """Threads have names. Where one can not be started, those that were started end. A pool is
-    dropped with its last name."""
-    with ScheduledThreadPoolExecutor(2, thread_name_prefix="beat") as pool:
-        name = pool.submit(lambda: threading.current_thread().name).result(PATIENCE)
-        assert name in ("beat_0", "beat_1")
-    left = weakref.ref(pool)
-    del pool
-    gc.collect()
-    assert left() is None
-    start, started = threading.Thread.start, []
-
-    def start_two(thread):
-        if len(started) == 2:
-            raise RuntimeError("no third")
-        started.append(thread)
-        start(thread)
-
-    with mock.patch.object(threading.Thread, "start", start_two):
-        refuses(RuntimeError, ScheduledThreadPoolExecutor, 4)
-    for thread in started:
-        thread.join(PATIENCE)
-        assert not thread.is_alive()
-
-
 def idle():
     """Workers that wait do not look again and again."""
     with pool_of(8, Recorded) as pool:
         far = pool.schedule(3600, print)
         pool.schedule(0.3, int).result(PATIENCE)
-        assert pool._timers.polls <= 8 * 4, pool._timers.polls
+        assert pool._workers.timers.polls <= 8 * 4, pool._workers.timers.polls
         far.cancel()
 
 
@@ -547,7 +540,7 @@ def traced(workers, continues):
         refuses(RuntimeError, pool.submit, print)
         late.result(PATIENCE)
         pool.executes_delayed = False
-    return pool._timers
+    return pool._workers.timers
 
 
 def traces(program):
@@ -565,44 +558,7 @@ def traces(program):
         assert found(program, timers, less).startswith("breaks ")
 
 
-LEFT_ALONE = """
-import os, sys, threading, time
-sys.path.insert(0, sys.argv[1])
-from sched_timers import ScheduledThreadPoolExecutor
-pool, held = ScheduledThreadPoolExecutor(2), threading.Event()
-
-def hold():
-    with pool._changed:
-        held.set()
-        time.sleep(0.1)
-
-pool.schedule(0.3, print, "late")
-pool.schedule_at_fixed_rate(3600, 3600, print, "never")
-threading.Thread(target=hold).start()
-held.wait()
-child = os.fork()
-if child == 0:
-    sys.exit(5)
-print("child", os.waitstatus_to_exitcode(os.waitpid(child, 0)[1]))
-"""
-
-
-def left_alone():
-    """A program that leaves its pool alone ends once what waits for a single run has had it. A
-    forked child has no pool, whoever held the lock as it was forked."""
-    words = [sys.executable, "-W", "ignore", "-c", LEFT_ALONE, PYTHON]
-    ended = subprocess.run(words, stdout=subprocess.PIPE, stderr=subprocess.STDOUT, text=True,
-                           timeout=PATIENCE)
-    assert ended.returncode == 0, ended.stdout
-    assert sorted(ended.stdout.splitlines()) == ["child 5", "late"], ended.stdout
-
-
-for test in (order, sooner, beside, together, rates, delays, withdraws, timeouts, jobs_that_call,
-             callbacks, shutdowns, last_cancel, endless, slow, failures, kinds, drops, threads,
-             idle, storms, left_alone):
-    try:
-        test()
-    except BaseException:
-        traceback.print_exc()
-        os._exit(1)   # at once: a pool that does not end would hold up the end of this program
+try_all(order, sooner, beside, together, rates, delays, withdraws, timeouts, jobs_that_call,
+        callbacks, shutdowns, last_cancel, endless, slow, failures, spans, kinds, remaining, drops,
+        idle, storms)
 end_with_traces(traces)

@@ -12,10 +12,11 @@ from unittest import mock
 from recorded_timers import Recorded, end_with_traces, found, refuses
 from sched_timers import ClosedError, SchedError
 from sched_timers.timers import (
-    Effect, End, Ending, Gone, IllegalArgumentError, MomentTooFarError, NotRunningError, Outcome,
-    Phase, Policy, RejectedError, Run, SpanTooLongError, Status, TaskRef, TaskState, Timers,
-    TimersClosedError, TimersError, TimersMemoryError, UnknownTaskError, UnknownWorkerError,
-    WorkerBusyError, WorkerCountError)
+    CodeTooLargeError, Effect, End, Ending, Gone, IllegalArgumentError, MomentTooFarError,
+    NotASpanError, NotRunningError, Outcome, Phase, Policy, RejectedError, Run, SpanError,
+    SpanTooLongError, Status, TaskRef, TaskState, Timers, TimersClosedError, TimersError,
+    TimersMemoryError, UnknownPolicyError, UnknownTaskError, UnknownWorkerError, WorkerBusyError,
+    WorkerCountError, ZeroPeriodError)
 from sched_timers.timers_errors import ERRORS
 
 LONGEST = 1 << 62
@@ -32,9 +33,9 @@ def numbers():
     before = timers.state(), timers.text()
     for call, *words in [
         (timers.reserve, -1), (timers.reserve, 1 << 32), (timers.schedule, -1, 0),
-        (timers.schedule, 0, -1), (timers.schedule, 0, 1 << 64), (timers.schedule, 0, 0, 1 << 64),
+        (timers.schedule, 0, -1), (timers.schedule, 1 << 64, 0), (timers.schedule, 0, 0, 1 << 64),
         (timers.execute, 0, -1), (timers.execute, 0, 1 << 64), (timers.at_rate, 0, 0, -1),
-        (timers.at_rate, 0, -1, 1), (timers.with_delay, 0, 0, 1 << 64), (timers.poll, -1),
+        (timers.at_rate, 0, -1, 1), (timers.with_delay, 0, 0, -1), (timers.poll, -1),
         (timers.poll, 0, -1), (timers.poll, 0, 1 << 32), (timers.finish, 0, 0, -1),
         (timers.finish, 0, 0, 1 << 64), (timers.fail, 0, 0, 1 << 32), (timers.ask, -1),
         (timers.set_policy, 0, -1, True), (timers.shutdown, 1 << 64), (timers.shutdown_now, -1),
@@ -105,10 +106,10 @@ def errors():
     timers.poll(5, 1)
     before = timers.state(), timers.text()
     for kind, call, *words in [
-        (IllegalArgumentError, timers.at_rate, 0, 0, 0),
-        (IllegalArgumentError, timers.with_delay, 0, 0, 0),
-        (IllegalArgumentError, timers.set_policy, 0, 3, True),
-        (IllegalArgumentError, timers.at_rate, LONGEST + 1, LONGEST + 1, 0),
+        (ZeroPeriodError, timers.at_rate, 0, 0, 0),
+        (ZeroPeriodError, timers.with_delay, 0, 0, 0),
+        (ZeroPeriodError, timers.at_rate, LONGEST + 1, LONGEST + 1, 0),
+        (UnknownPolicyError, timers.set_policy, 0, 3, True),
         (SpanTooLongError, timers.schedule, LONGEST + 1, LONGEST + 1),
         (SpanTooLongError, timers.at_rate, 0, LONGEST + 1, 1),
         (SpanTooLongError, timers.with_delay, 0, 0, LONGEST + 1),
@@ -129,8 +130,38 @@ def errors():
     ]:
         refused = refuses(kind, call, *words)
         assert type(refused) is kind and isinstance(refused, TimersError)
-        assert isinstance(refused, SchedError) and str(refused) == refused.status.text
+        assert isinstance(refused, SchedError)
+        assert isinstance(refused, IllegalArgumentError | SpanError) or (
+            str(refused) == refused.status.text)
         assert (timers.state(), timers.text()) == before, (call, words)
+
+
+def reasons():
+    """Of one status that has more causes each has an error of its own, in words. One of a span
+    tells it, however long it is."""
+    timers = Timers(1)
+    longest = "4611686018.427387904 seconds, which are 2^62 nanoseconds"
+    for span, shown in [(LONGEST + 1, str(LONGEST + 1)), (1 << 64, str(1 << 64)),
+                        (1 << 300, "2**300 or more"), (10**5000, "2**16609 or more")]:
+        for call, *words in [(timers.schedule, span), (timers.at_rate, span, 1),
+                             (timers.at_rate, 1, span), (timers.with_delay, 1, span)]:
+            refused = refuses(SpanTooLongError, call, 0, *words)
+            assert str(refused) == (
+                f"a span of {shown} nanoseconds is above the longest, {longest}")
+            assert refused.span == span and refused.unit == "nanoseconds"
+    assert timers.cancel(timers.schedule(0, LONGEST))
+    zero = refuses(ZeroPeriodError, timers.with_delay, 0, 5, 0)
+    assert str(zero) == ("a period, or a delay between runs, of 0 nanoseconds is less than "
+                         "1 nanosecond")
+    assert isinstance(zero, SpanError) and isinstance(zero, ValueError)
+    policy = refuses(UnknownPolicyError, timers.set_policy, 0, 3, True)
+    assert str(policy) == "there is no such policy"
+    code = refuses(CodeTooLargeError, timers.finish_many, 0, [Ending(0, 1 << 32, True)])
+    assert str(code) == "the code of a failure is above 4294967295" and code.before == []
+    for error in (zero, policy, code, NotASpanError(float("inf"), "seconds")):
+        assert isinstance(error, IllegalArgumentError) and error.status is Status.ILLEGAL
+    timers.close()
+    refuses(TimersClosedError, timers.schedule, 0, LONGEST + 1)
 
 
 def closed():
@@ -148,11 +179,13 @@ def closed():
 
 def copies():
     """An error that is sent to another process arrives as it was."""
-    for error in [NotRunningError([Ending(0)]), RejectedError(TaskRef(3, 4)), WorkerCountError()]:
+    for error in [NotRunningError([Ending(0)]), RejectedError(TaskRef(3, 4)), WorkerCountError(),
+                  SpanTooLongError(1e300, "seconds"), SpanTooLongError(), ZeroPeriodError(0),
+                  CodeTooLargeError([Ending(0)])]:
         copied = pickle.loads(pickle.dumps(error))
         assert type(copied) is type(error) and vars(copied) == vars(error)
-        assert copied.args == error.args
-        assert str(copied) == str(error) == error.status.text
+        assert copied.args == error.args and str(copied) == str(error)
+    assert str(SpanTooLongError()) == Status.TOO_LONG.text
     assert RejectedError(TaskRef(3, 4)).args == (TaskRef(3, 4),)
     assert repr(NotRunningError()) == "NotRunningError('the worker has no run under way')"
 
@@ -279,9 +312,9 @@ def many():
     refused = refuses(WorkerBusyError, timers.poll_many, 3, [1, 0, 2])
     assert refused.before == [Run(other, 0, 3, 0, 1)]
     endings = iter([Ending(1), Ending(0, 1 << 32, True)])
-    refused = refuses(IllegalArgumentError, timers.finish_many, 4, endings)
+    refused = refuses(CodeTooLargeError, timers.finish_many, 4, endings)
     assert [end.outcome for end in refused.before] == [Outcome.DONE]
-    refused = refuses(IllegalArgumentError, timers.finish_many, 4, [Ending(9, 1 << 32, True)])
+    refused = refuses(CodeTooLargeError, timers.finish_many, 4, [Ending(9, 1 << 32, True)])
     assert refused.before == []
     most = (1 << 32) - 1
     ended = timers.finish_many(4, [Ending(0, most, True)])
@@ -309,7 +342,7 @@ def traces(program):
             made.append(self)
 
     with mock.patch.dict(globals(), Timers=Noted):
-        for test in (numbers, kinds, errors, runs, cancels, policies, stops):
+        for test in (numbers, kinds, errors, reasons, runs, cancels, policies, stops):
             test()
     for timers in made:
         answer = found(program, timers, "".join(timers.trace))
@@ -318,7 +351,7 @@ def traces(program):
             assert found(program, timers, "".join(timers.trace[1:])).startswith("breaks ")
 
 
-for test in (numbers, kinds, members, errors, closed, copies, runs, cancels, policies, stops, many,
-             frees):
+for test in (numbers, kinds, members, errors, reasons, closed, copies, runs, cancels, policies,
+             stops, many, frees):
     test()
 end_with_traces(traces)

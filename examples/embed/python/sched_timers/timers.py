@@ -18,8 +18,9 @@ cancel is made now. Each other call that takes a moment is made at the greatest 
 in, now, and 1 ns after the last poll or end of a run; a delay counts from there.
 
 A call that is refused raises a `TimersError` of its own class. A number that does not fit is a
-ValueError, and what is no number, such as a bool, a TypeError. The timers are then as they were,
-but that what a call on many did before it was refused has happened.
+ValueError, of a span that is too long a `SpanTooLongError`, and what is no number, such as a bool,
+a TypeError. The timers are then as they were, but that what a call on many did before it was
+refused has happened.
 
 >>> timers = Timers(workers=1)
 >>> timers.finish(0)
@@ -52,24 +53,28 @@ import ctypes
 from collections.abc import Iterable
 
 from sched_timers import _timers_calls as calls
+from sched_timers._library import DONE
 from sched_timers._lines import Lined
 from sched_timers._numbers import MOMENT, NUMBER, Flag, whole
 from sched_timers._timers_calls import Status
 from sched_timers.timers_answers import (Counts, Effect, End, Ending, Gone, Outcome, Phase, Policy,
                                          Run, State, TaskRef, TaskState)
-from sched_timers.timers_errors import (ERRORS, IllegalArgumentError, MomentTooFarError,
+from sched_timers.timers_errors import (ERRORS, LONGEST_SPAN, CodeTooLargeError,
+                                        IllegalArgumentError, MomentTooFarError, NotASpanError,
                                         NotRunningError, NumbersExhaustedError,
-                                        NumberTooLargeError, RejectedError, SpanTooLongError,
-                                        TimersClosedError, TimersError, TimersMemoryError,
-                                        UnknownTaskError, UnknownWorkerError, WorkerBusyError,
-                                        WorkerCountError)
+                                        NumberTooLargeError, RejectedError, SpanError,
+                                        SpanTooLongError, TimersClosedError, TimersError,
+                                        TimersMemoryError, UnknownPolicyError, UnknownTaskError,
+                                        UnknownWorkerError, WorkerBusyError, WorkerCountError,
+                                        ZeroPeriodError)
 
-__all__ = ["Counts", "Effect", "End", "Ending", "Gone", "IllegalArgumentError",
-           "MomentTooFarError", "NotRunningError", "NumberTooLargeError", "NumbersExhaustedError",
-           "Outcome", "Phase", "Policy", "RejectedError", "Run", "SpanTooLongError", "State",
-           "Status", "TaskRef", "TaskState", "Timers", "TimersClosedError", "TimersError",
-           "TimersMemoryError", "UnknownTaskError", "UnknownWorkerError", "WorkerBusyError",
-           "WorkerCountError"]
+__all__ = ["CodeTooLargeError", "Counts", "Effect", "End", "Ending", "Gone",
+           "IllegalArgumentError", "LONGEST_SPAN", "MomentTooFarError", "NotASpanError",
+           "NotRunningError", "NumberTooLargeError", "NumbersExhaustedError", "Outcome", "Phase",
+           "Policy", "RejectedError", "Run", "SpanError", "SpanTooLongError", "State", "Status",
+           "TaskRef", "TaskState", "Timers", "TimersClosedError", "TimersError",
+           "TimersMemoryError", "UnknownPolicyError", "UnknownTaskError", "UnknownWorkerError",
+           "WorkerBusyError", "WorkerCountError", "ZeroPeriodError"]
 
 
 class Timers(Lined):
@@ -98,22 +103,22 @@ class Timers(Lined):
 
     def schedule(self, now: int, delay: int, data: int = 0) -> TaskRef:
         """Submits a task for one run, `delay` nanoseconds after the moment of the call."""
-        return self._submit("schedule", now, delay, data)
+        return self._submit("schedule", now, (delay,), data)
 
     def execute(self, now: int, data: int = 0) -> TaskRef:
         """Submits a task for one run at once."""
-        return self._submit("execute", now, data)
+        return self._submit("execute", now, (), data)
 
     def at_rate(self, now: int, first: int, period: int, data: int = 0) -> TaskRef:
         """Submits a task that runs first `first` nanoseconds after the moment of the call, and
         then at a fixed rate: each run is due `period` nanoseconds after the one before it was due,
         however long that took."""
-        return self._submit("rate", now, first, period, data)
+        return self._submit("rate", now, (first, period), data)
 
     def with_delay(self, now: int, first: int, delay: int, data: int = 0) -> TaskRef:
         """The same, where each run is due `delay` nanoseconds after the one before it was
         finished."""
-        return self._submit("fixed", now, first, delay, data)
+        return self._submit("fixed", now, (first, delay), data)
 
     def cancel(self, task: TaskRef) -> Effect:
         """Cancels a task. One that waits is kept in the queue until a poll meets it, or a shutdown
@@ -167,6 +172,8 @@ class Timers(Lined):
         status = self._call("finish_many", now, rows, count, out, count, ended)
         told = bytes(out)[:ended.value * calls.ENDS.size]
         ends = [_end(*words) for words in calls.ENDS.unpacked(told)]
+        if status == Status.ILLEGAL:
+            raise CodeTooLargeError(ends)
         self._done(status, ends)
         return ends
 
@@ -200,7 +207,10 @@ class Timers(Lined):
         """Sets a policy. Where the timers are shut, and the continue or the execute policy is set
         to false, this ends the tasks that the policies do not let run any more: `ended` tells
         them."""
-        self._tell("set_policy", now, policy, value)
+        status = self._call("set_policy", now, policy, value)
+        if status == Status.ILLEGAL:
+            raise UnknownPolicyError
+        self._done(status)
 
     def shutdown(self, now: int) -> bool:
         """Shuts the timers down in order, and says whether they were not shut before: submissions
@@ -240,15 +250,35 @@ class Timers(Lined):
         state = self.state()
         return f"workers={self._workers} alive={state.alive} now={state.now}"
 
-    def _submit(self, name: str, *words: int) -> TaskRef:
+    def _submit(self, name: str, now: int, spans: tuple[int, ...], data: int) -> TaskRef:
         """The task of a submission."""
         out = calls.Ref()
-        status = self._call(name, *words, out)
+        try:
+            status = self._call(name, now, *spans, data, out)
+        except ValueError:
+            _check_lengths(spans)   # of one above 2**64 it tells more
+            raise
         task = TaskRef(out.number, out.slot)
+        if status != DONE:
+            self._refuse(status, task, spans)
+        return task
+
+    def _refuse(self, status: int, task: TaskRef, spans: tuple[int, ...]) -> None:
+        """Raises the error of a submission that was not done."""
         if status == Status.SHUT:
             raise RejectedError(task)
+        if status == Status.ILLEGAL:
+            raise ZeroPeriodError(spans[-1])
+        if status == Status.TOO_LONG:
+            _check_lengths(spans)
         self._done(status)
-        return task
+
+
+def _check_lengths(spans: tuple[int, ...]) -> None:
+    """Raises the error of the first span that is too long, where one is."""
+    for span in spans:
+        if whole(span) > LONGEST_SPAN:
+            raise SpanTooLongError(span) from None
 
 
 def _ref(task: TaskRef) -> calls.Ref:

@@ -1,0 +1,274 @@
+"""The threads of a pool, and what they share.
+
+The threads are the workers of the timers. The timers, the jobs and who sleeps are read and changed
+under one lock; jobs are run, and callbacks are called, without it. The clock is read under the
+lock too, so that the timers never see it go back.
+
+A worker polls. Where a run is due it takes it, calls another worker, and leaves the lock. Where
+none is due it sleeps, as `_sleepers` says. Whatever may leave no task behind after a shutdown
+wakes all workers, and so does the first that finds none: then they end.
+
+The threads know nothing of the pool that they belong to, so it is dropped with its last name. The
+drop comes at any moment, perhaps in a thread that has the lock: it leaves a word, and wakes all.
+The first worker that finds the word ends the pool.
+"""
+
+from __future__ import annotations
+
+import atexit
+import functools
+import itertools
+import logging
+import os
+import threading
+import time
+import weakref
+from collections.abc import Callable
+from concurrent.futures.thread import BrokenThreadPool
+from typing import Any, TypeVar
+
+from sched_timers._sleepers import Sleepers
+from sched_timers._spans import NANOSECONDS
+from sched_timers.scheduled_future import Job, ScheduledFuture
+from sched_timers.timers import Outcome, Phase, Policy, TaskRef, Timers
+
+T = TypeVar("T")
+
+FAILURE = 1
+LOGGER = logging.getLogger("sched_timers")
+_ALL: weakref.WeakSet[Workers] = weakref.WeakSet()
+
+
+class Workers:
+    """As many threads as timers have workers."""
+
+    def __init__(self, count: int, name: str, initializer: Callable[..., object] | None,
+                 initargs: tuple[Any, ...]) -> None:
+        self.timers = Timers(count)
+        # A thread that has it may come back to it, as what collects garbage calls anything.
+        self.lock = threading.RLock()
+        # Those that may be withdrawn: of tasks that wait, or run again and again.
+        self.jobs: dict[int, Job] = {}
+        self._keys = itertools.count()
+        self.sleepers = Sleepers(count)
+        self._is_dropped = False
+        self._broken: str | None = None
+        # A task that is cancelled leaves at once: none can see it, and a kept one would hold up
+        # the end of the pool.
+        self.timers.set_policy(time.monotonic_ns(), Policy.REMOVE, True)
+        self.threads = [threading.Thread(target=self._work, args=(worker, initializer, initargs),
+                                         daemon=True, name=f"{name}_{worker}")
+                        for worker in range(count)]
+
+    def start(self) -> None:
+        """Starts the threads, all or none."""
+        try:
+            for thread in self.threads:
+                thread.start()
+        except BaseException:
+            self.end_tasks(self.timers.shutdown)
+            raise
+        _ALL.add(self)
+
+    # What the pool and its futures call.
+
+    def submit(self, call: Callable[[], Any], submit: Callable[..., TaskRef], *spans: int,
+               is_periodic: bool = False) -> ScheduledFuture[Any]:
+        """Submits a job. It is there before its task is, so that whatever comes of the task finds
+        it."""
+        key = next(self._keys)
+        job = Job(ScheduledFuture(self, key), call, is_periodic)
+        with self.lock:
+            if self._broken is not None:
+                raise BrokenThreadPool(self._broken)
+            self.jobs[key] = job
+            try:
+                job.future._task = submit(time.monotonic_ns(), *spans, key)
+            except BaseException:
+                del self.jobs[key]
+                raise
+            self.sleepers.call(self.timers.next_due())
+        return job.future
+
+    def withdraw(self, future: ScheduledFuture[Any]) -> bool:
+        """Cancels the task of a future, where that may still be, and says whether this call
+        did."""
+        with self.lock:
+            job = self.jobs.get(future._key)
+            if job is None or future._task is None:
+                return False
+            self.timers.cancel(future._task)
+            del self.jobs[future._key]
+            future._is_withdrawn = True
+            self._wake_all_if_terminated()
+            return True
+
+    def remaining(self, task: TaskRef) -> float | None:
+        """How many seconds are left until a run is due; None where none comes."""
+        with self.lock:
+            state = self.timers.task(task)
+            if state.phase is Phase.GONE or state.cancelled:
+                return None
+            return (state.due - time.monotonic_ns()) / NANOSECONDS
+
+    def end_tasks(self, *calls: Callable[[int], object]) -> None:
+        """Makes calls on the timers, each at its moment, and tells the futures of the tasks that
+        they end."""
+        ended: list[Job] = []
+        with self.lock:
+            for call in calls:
+                call(time.monotonic_ns())
+                ended += [self.jobs.pop(gone.data) for gone in self.timers.ended()]
+            for job in ended:
+                job.future._is_withdrawn = self._broken is None
+            self._wake_all_if_terminated()
+        for job in ended:
+            self._tell_no_run(job.future)
+
+    def end(self) -> None:
+        """Shuts the pool down. Nobody waits any more for what is not due yet."""
+        policies = [functools.partial(self.timers.set_policy, policy=policy, value=False)
+                    for policy in (Policy.EXECUTE, Policy.CONTINUE)]
+        self.end_tasks(*policies, self.timers.shutdown)
+
+    def drop(self) -> None:
+        """The pool was dropped."""
+        self._is_dropped = True
+        self.sleepers.wake_all()
+
+    def join(self, timeout: float | None) -> bool:
+        """Waits for the end of the threads, at most so many seconds, and says whether they have
+        ended. One of them would wait for itself."""
+        if threading.current_thread() in self.threads:
+            raise RuntimeError("cannot join current thread")
+        deadline = None if timeout is None else time.monotonic() + timeout
+        for thread in self.threads:
+            thread.join(None if deadline is None else max(0.0, deadline - time.monotonic()))
+        return self.have_ended()
+
+    def have_ended(self) -> bool:
+        """Whether the threads have ended."""
+        return not any(thread.is_alive() for thread in self.threads)
+
+    # What the threads do.
+
+    def _work(self, worker: int, initializer: Callable[..., object] | None,
+              initargs: tuple[Any, ...]) -> None:
+        """What a thread does. Nothing of a job is held while the next one is waited for."""
+        if initializer is not None:
+            _, failure = _ran(functools.partial(initializer, *initargs))
+            if failure is not None:
+                self._break(failure)
+                return
+        while self._step(worker):
+            pass
+
+    def _break(self, failure: BaseException) -> None:
+        """An initializer has failed: no task runs any more."""
+        LOGGER.critical("Exception in initializer:", exc_info=failure)
+        with self.lock:
+            self._broken = f"an initializer failed: {failure!r}"
+        self.end_tasks(self.timers.shutdown_now)
+
+    def _step(self, worker: int) -> bool:
+        """Looks for a run and does it, or sleeps; false where none can come."""
+        if self._is_dropped:
+            self._end_dropped()
+        found = self._look(worker)
+        if found is None:
+            return False
+        if isinstance(found, float):
+            self._sleep(worker, found)
+            return True
+        if not found.is_periodic:
+            found.future.set_running_or_notify_cancel()
+        value, failure = _ran(found.call)
+        match self._finish(worker, failure is not None):
+            case Outcome.DONE:
+                found.future.set_result(value)
+            case Outcome.FAILED:
+                found.future.set_exception(failure)
+            case Outcome.ENDED:
+                self._tell_no_run(found.future)
+            case Outcome.AGAIN | Outcome.DROPPED:
+                pass   # the task goes on, or whoever cancelled it has told its future
+        # The traceback of a failure leads to this frame, from which nothing is to lead back to it.
+        del found, failure
+        return True
+
+    def _look(self, worker: int) -> Job | float | None:
+        """Looks for a run, and answers its job, which can be withdrawn no more where it has one
+        run; or else how many seconds to sleep; None where none can come."""
+        with self.lock:
+            run = self.timers.poll(time.monotonic_ns(), worker)
+            if run is not None:
+                self.sleepers.call(self.timers.next_due())
+                job = self.jobs[run.data]
+                return job if job.is_periodic else self.jobs.pop(run.data)
+            if self.timers.state().terminated:
+                self.sleepers.wake_all()
+                return None
+            return self.sleepers.lie_down(worker, self.timers.next_due())
+
+    def _sleep(self, worker: int, seconds: float) -> None:
+        """Sleeps until it is called, or so many seconds have passed."""
+        self.sleepers.sleep(worker, seconds)
+        with self.lock:
+            self.sleepers.rise(worker)
+
+    def _finish(self, worker: int, has_failed: bool) -> Outcome:
+        """Ends the run of a worker, and says what becomes of the task."""
+        with self.lock:
+            now = time.monotonic_ns()
+            if has_failed:
+                end = self.timers.fail(now, worker, FAILURE)
+            else:
+                end = self.timers.finish(now, worker)
+            is_over = end.outcome in (Outcome.FAILED, Outcome.ENDED)
+            if is_over and (job := self.jobs.pop(end.data, None)) is not None:
+                is_ended = end.outcome is Outcome.ENDED
+                job.future._is_withdrawn = is_ended and self._broken is None
+            return end.outcome
+
+    def _end_dropped(self) -> None:
+        """Ends the pool that was dropped, unless it was shut down before."""
+        self._is_dropped = False
+        with self.lock:
+            is_shut = self.timers.state().shut
+        if not is_shut:
+            self.end()
+
+    def _wake_all_if_terminated(self) -> None:
+        """Wakes all workers where no task is left, and none can come, so that they end. The caller
+        holds the lock."""
+        if self.timers.state().terminated:
+            self.sleepers.wake_all()
+
+    def _tell_no_run(self, future: ScheduledFuture[Any]) -> None:
+        """Tells a future whose task the end of the pool has ended. The caller does not hold the
+        lock."""
+        if self._broken is None:
+            future._end_cancelled()
+        else:
+            future.set_exception(BrokenThreadPool(self._broken))
+
+
+def _ran(call: Callable[[], T]) -> tuple[T | None, BaseException | None]:
+    """What a call answers, or raises."""
+    try:
+        return call(), None
+    except BaseException as failure:
+        return None, failure
+
+
+@atexit.register
+def _end_all() -> None:
+    """Ends all pools, and waits for the runs that are under way or due."""
+    left = list(_ALL)
+    for workers in left:
+        workers.end()
+    for workers in left:
+        workers.join(None)
+
+
+os.register_at_fork(after_in_child=_ALL.clear)
