@@ -30,7 +30,7 @@ def tree(parts: Parts) -> Tree:
         found |= {str(path.relative_to(SOURCE)): copied(path) for path in paths}
     found[f"{ARCHIVES}/libsched.a"] = parts.archive
     found["NOTICES"] = made.notices(LIBRARY_CRATES)
-    found["MACHINES"] = File(made.machines(parts).encode())
+    found["MACHINES"] = File(made.library_machines(parts).encode())
     return found
 
 

@@ -6,6 +6,7 @@ import os
 import shutil
 import tempfile
 from dataclasses import dataclass
+from functools import cached_property
 from pathlib import Path
 
 import library
@@ -24,25 +25,80 @@ LIBRARY_CRATES = list(library.LIBRARIES)
 # The tracked files of the examples that a package has, as `git ls-files` names them.
 EXAMPLES = ("examples", ":!examples/embed/python", ":!examples/embed/rust", ":!examples/embed/tests", ":!examples/embed/archives",
             ":!examples/embed/c/run*")
+MEASURED = "Measured: the versions of the C library's symbols that each file takes, and each of its instructions.\n\n"
 
 
-@dataclass(frozen=True)
 class Parts:
-    """What was built, and of which version. `moment` is that of the last commit, which files carry, in seconds."""
-    version: str
-    moment: int
-    program: File
-    archive: File
-    shared: File
-    objects: dict[str, File]
-    pages: dict[str, bytes]
-    program_machine: Machine
-    library_machine: Machine
+    """What packages of a version are made of. Each part is built as it is first asked for, so that a wheel needs no program."""
+
+    def __init__(self, version: str) -> None:
+        self.version = version
+        self._folder = tempfile.TemporaryDirectory()
+
+    @cached_property
+    def moment(self) -> int:
+        """That of the last commit, which files carry, in seconds; or the one that SOURCE_DATE_EPOCH names."""
+        return int(os.environ.get("SOURCE_DATE_EPOCH") or output(["git", "-C", TOP, "log", "-1", "--format=%ct"]))
 
     @property
     def soname(self) -> str:
         """The name under which programs look for the shared library: it changes where they have to be built anew."""
-        return soname(self.version)
+        return f"libsched.so.{self.version.split('.')[0]}"
+
+    @cached_property
+    def program(self) -> File:
+        """The program."""
+        return copied(self._program)
+
+    @cached_property
+    def program_machine(self) -> Machine:
+        """Which machines run the program."""
+        return machine.measured(self._program)
+
+    @cached_property
+    def pages(self) -> dict[str, bytes]:
+        """The program's pages and completions, each by its place."""
+        return {place: text.encode() for place, text in manual.files(PROGRAM, self.version).items()}
+
+    @cached_property
+    def objects(self) -> dict[str, File]:
+        """The object of each library."""
+        return {crate: copied(file) for crate, file in self._objects.items()}
+
+    @cached_property
+    def archive(self) -> File:
+        """The archive of all libraries."""
+        library.archive(list(self._objects.values()), self._place / "libsched.a")
+        return copied(self._place / "libsched.a")
+
+    @cached_property
+    def shared(self) -> File:
+        """The shared library of all libraries."""
+        return File(self._shared.read_bytes())
+
+    @cached_property
+    def library_machine(self) -> Machine:
+        """Which machines run the shared library."""
+        return machine.measured(self._shared)
+
+    @property
+    def _place(self) -> Path:
+        return Path(self._folder.name)
+
+    @cached_property
+    def _program(self) -> Path:
+        shutil.copy2(program(), self._place / "sched")
+        output(["strip", self._place / "sched"])
+        return self._place / "sched"
+
+    @cached_property
+    def _objects(self) -> dict[str, Path]:
+        return library.whole_objects(self._place)
+
+    @cached_property
+    def _shared(self) -> Path:
+        library.shared(list(self._objects.values()), self._place / "libsched.so", self.soname)
+        return self._place / "libsched.so"
 
 
 @dataclass(frozen=True)
@@ -67,16 +123,6 @@ class Places:
         return self / "share/doc"
 
 
-def soname(version: str) -> str:
-    """The name of the shared library of a version."""
-    return f"libsched.so.{version.split('.')[0]}"
-
-
-def last_commit() -> int:
-    """The moment of the last commit, or the one that SOURCE_DATE_EPOCH names."""
-    return int(os.environ.get("SOURCE_DATE_EPOCH") or output(["git", "-C", TOP, "log", "-1", "--format=%ct"]))
-
-
 def program() -> Path:
     """The built program, which needs the C library alone."""
     if not PROGRAM.exists():
@@ -85,23 +131,6 @@ def program() -> Path:
     if needed != {library.C_LIBRARY}:
         raise ToolError(f"{PROGRAM.name} needs {sorted(needed)}, and not {library.C_LIBRARY} alone")
     return PROGRAM
-
-
-def built(version: str) -> Parts:
-    """Builds the libraries and the pages from what stands."""
-    with tempfile.TemporaryDirectory() as name:
-        folder = Path(name)
-        shutil.copy2(program(), folder / "sched")
-        output(["strip", folder / "sched"])
-        objects = library.whole_objects(folder)
-        archive, shared = folder / "libsched.a", folder / "libsched.so"
-        library.archive(list(objects.values()), archive)
-        library.shared(list(objects.values()), shared, soname(version))
-        return Parts(
-            version, last_commit(), copied(folder / "sched"), copied(archive), File(shared.read_bytes()),
-            {crate: copied(file) for crate, file in objects.items()},
-            {place: text.encode() for place, text in manual.files(PROGRAM, version).items()},
-            machine.measured(folder / "sched"), machine.measured(shared))
 
 
 def program_tree(parts: Parts, places: Places) -> Tree:
@@ -153,13 +182,14 @@ def example_tree(folder: str) -> Tree:
     return {f"{folder}/{name}": copied(TOP / name) for name in names}
 
 
+def library_machines(parts: Parts) -> str:
+    """Which machines run the libraries."""
+    return f"{MEASURED}the library libsched: {parts.library_machine}\n"
+
+
 def machines(parts: Parts) -> str:
     """Which machines run the program and the libraries."""
-    return f"""Measured: the versions of the C library's symbols that each file takes, and each of its instructions.
-
-the program sched: {parts.program_machine}
-the library libsched: {parts.library_machine}
-"""
+    return f"{MEASURED}the program sched: {parts.program_machine}\nthe library libsched: {parts.library_machine}\n"
 
 
 def document_tree(parts: Parts, folder: str) -> Tree:

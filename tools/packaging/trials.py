@@ -2,6 +2,7 @@
 
 from __future__ import annotations
 
+import json
 import os
 import re
 import shutil
@@ -26,6 +27,12 @@ from tools import ToolError, output
 
 # The examples in Python that stand beside the package, and what each writes.
 PYTHON_EXAMPLES = {"heartbeat_pool.py": "heartbeat_pool.txt", "debounce.py": "debounce.txt"}
+# Writes all fields of what an installed package says of itself.
+METADATA_PROGRAM = """\
+import importlib.metadata, json, sys
+fields = importlib.metadata.metadata(sys.argv[1])
+print(json.dumps({name: fields.get_all(name) for name in fields}))
+"""
 # The examples of the crate, and what each writes.
 RUST_EXAMPLES = {"retries": "stdout", "retries_with_backoff": "stdout_retries"}
 # A program of another crate that stands on this one, and what it writes.
@@ -155,22 +162,49 @@ def try_debian(trials: Trials, parts: Parts, packages: dict[str, bytes], folder:
         print("left out, no lintian")
 
 
-def try_wheel(trials: Trials, parts: Parts, packages: dict[str, bytes], folder: Path) -> None:
-    """The wheel, in a fresh virtual environment, and away from the sources."""
-    environment = outside(folder)
-    name = next(name for name in packages if name.endswith(".whl"))
-    (folder / name).write_bytes(packages[name])
+def installed_by_pip(name: str, data: bytes, folder: Path, environment: dict[str, str]) -> Path:
+    """The interpreter of a fresh virtual environment that has a package, and nothing else. No index is asked."""
+    folder.mkdir()
+    (folder / name).write_bytes(data)
     python = folder / "environment" / "bin" / "python"
-    with trials.step("wheel: installed"):
-        output([sys.executable, "-m", "venv", folder / "environment"], environment=environment)
-        output([python, "-m", "pip", "install", "--quiet", "--no-index", "--no-deps", folder / name], environment=environment)
-        shown = output([python, "-m", "pip", "show", wheel.PACKAGE], environment=environment)
-        expect("".join(re.findall(r"^Version: (.*)$", shown, re.MULTILINE)), parts.version)
-    for example, wanted in PYTHON_EXAMPLES.items():
-        with trials.step(f"wheel: {example}"):
-            shutil.copy(wheel.SOURCE / example, folder)
-            found = output([python, "-I", folder / example], environment=environment, folder=folder)
-            expect(found, (wheel.SOURCE / wanted).read_text())
+    output([sys.executable, "-m", "venv", folder / "environment"], environment=environment)
+    output([python, "-m", "pip", "install", "--quiet", "--no-index", folder / name], environment=environment)
+    return python
+
+
+def try_metadata(python: Path, version: str, environment: dict[str, str]) -> None:
+    """What an installed package says of itself: each field, and its page, which has no word of the toolchain."""
+    fields = json.loads(output([python, "-I", "-c", METADATA_PROGRAM, wheel.PACKAGE], environment=environment))
+    wanted = {"Name": [wheel.PACKAGE], "Version": [version], "Summary": [wheel.SUMMARY], "Keywords": [",".join(wheel.KEYWORDS)],
+              "Requires-Python": [f">={wheel.OLDEST_PYTHON}"], "Classifier": list(wheel.CLASSIFIERS),
+              "Description-Content-Type": ["text/markdown"], "License-File": ["NOTICES"]}
+    expect(str({name: fields.get(name) for name in wanted}), str(wanted))
+    readme = (wheel.SOURCE / wheel.README).read_text()
+    page, needed = fields["Description"][0].rsplit("\nMeasured, of the libraries: ", 1)
+    expect(page, readme)
+    if re.search(r"\brt\b|rattle|/opt/", page, re.IGNORECASE) or not needed.startswith("Linux, glibc "):
+        raise ToolError(f"the page names the toolchain, or not what the libraries need:\n{page}\n{needed}")
+
+
+def try_wheel(trials: Trials, parts: Parts, packages: dict[str, bytes], folder: Path) -> None:
+    """The wheel and the source archive, each in a fresh virtual environment, and away from the sources. The second has no index to
+    build from either."""
+    environment = outside(folder)
+    for kind, ending in [("wheel", ".whl"), ("source archive", ".tar.gz")]:
+        name = next(name for name in packages if name.startswith(wheel.PACKAGE) and name.endswith(ending))
+        with trials.step(f"{kind}: installed"):
+            python = installed_by_pip(name, packages[name], folder / kind.split()[0], environment)
+        with trials.step(f"{kind}: what it says of itself"):
+            try_metadata(python, parts.version, environment)
+        for example, wanted in PYTHON_EXAMPLES.items():
+            with trials.step(f"{kind}: {example}"):
+                shutil.copy(wheel.SOURCE / example, folder)
+                found = output([python, "-I", folder / example], environment=environment, folder=folder)
+                expect(found, (wheel.SOURCE / wanted).read_text())
+    with trials.step("wheel and source archive: the same bytes once more"):
+        again = wheel.package(Parts(parts.version))
+        if again.items() - packages.items():
+            raise ToolError(f"other bytes: {[name for name in again if again[name] != packages.get(name)]}")
 
 
 def crate_user(folder: Path, dependency: Path) -> Path:

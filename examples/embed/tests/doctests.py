@@ -7,7 +7,7 @@ import pkgutil
 from recorded_timers import PYTHON
 
 TOP = PYTHON.parent.parent.parent
-PAGES = ["docs/EMBEDDING.md"]
+PAGES = ["docs/EMBEDDING.md", "examples/embed/python/README.md"]
 # What shows what it does by examples. What has the calls of a header alone, or only types, has
 # none.
 SHOWN = ["", "._numbers", "._sleepers", "._spans", ".delay_queue", ".errors", ".executor",
