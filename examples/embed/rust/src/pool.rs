@@ -70,6 +70,7 @@ use shared::Shared;
 use state::{State, When};
 use std::convert::Infallible;
 use std::fmt;
+use std::io;
 use std::sync::Arc;
 use std::thread::{self, JoinHandle};
 use std::time::Duration;
@@ -124,18 +125,42 @@ impl ScheduledThreadPool {
     /// # Ok::<(), sched::PoolError>(())
     /// ```
     pub fn new(threads: usize) -> Result<ScheduledThreadPool, PoolError> {
-        ScheduledThreadPool::of(threads, |_| {})
+        ScheduledThreadPool::named(threads, "scheduled")
+    }
+
+    /// A pool whose threads have names that begin so, each with its number behind that.
+    ///
+    /// # Errors
+    ///
+    /// As [`new`](Self::new). A name that has a byte 0 is refused as [`PoolError::Thread`].
+    ///
+    /// # Examples
+    ///
+    /// ```
+    /// use std::thread;
+    ///
+    /// let pool = sched::ScheduledThreadPool::named(1, "timeouts")?;
+    /// let name = pool.execute(|| thread::current().name().map(str::to_owned))?;
+    /// assert_eq!(name.join()?.as_deref(), Some("timeouts 0"));
+    /// # Ok::<(), Box<dyn std::error::Error>>(())
+    /// ```
+    pub fn named(threads: usize, name: &str) -> Result<ScheduledThreadPool, PoolError> {
+        ScheduledThreadPool::of(threads, name, |_| {})
     }
 
     /// A pool that keeps the plan and the trace of all that it does, for tests. Memory grows with each call.
     #[doc(hidden)]
     pub fn recorded(threads: usize) -> Result<ScheduledThreadPool, PoolError> {
-        ScheduledThreadPool::of(threads, State::record)
+        ScheduledThreadPool::of(threads, "recorded", State::record)
     }
 
     /// A pool whose state was prepared before it had a thread.
-    fn of(threads: usize, prepare: impl FnOnce(&mut State)) -> Result<Self, PoolError> {
+    fn of(threads: usize, name: &str, prepare: impl FnOnce(&mut State)) -> Result<Self, PoolError> {
         let workers = u32::try_from(threads).map_err(|_| TimersError::Workers)?;
+        if name.contains('\0') {
+            let why = io::Error::new(io::ErrorKind::InvalidInput, "a name has no byte 0");
+            return Err(PoolError::Thread(why));
+        }
         let mut state = State::new(workers)?;
         prepare(&mut state);
         let mut pool = ScheduledThreadPool {
@@ -144,7 +169,7 @@ impl ScheduledThreadPool {
         };
         for worker in 0..workers {
             let shared = Arc::clone(&pool.shared);
-            let named = thread::Builder::new().name(format!("scheduled {worker}"));
+            let named = thread::Builder::new().name(format!("{name} {worker}"));
             let thread = named.spawn(move || shared.work(worker));
             pool.threads.push(thread.map_err(PoolError::Thread)?);
         }
@@ -371,7 +396,8 @@ impl ScheduledThreadPool {
         self.shared.with(State::shut_down_now).len()
     }
 
-    /// Waits until the pool is terminated, at most so long, and says whether it is.
+    /// Waits until the pool is terminated, at most so long, and says whether it is. A job of the pool is answered false at once, since
+    /// the pool does not end before it.
     ///
     /// # Examples
     ///
@@ -386,7 +412,7 @@ impl ScheduledThreadPool {
     /// ```
     #[must_use = "it says whether the pool has ended in time"]
     pub fn await_termination(&self, timeout: Duration) -> bool {
-        self.shared.await_end(timeout)
+        !self.has_current_thread() && self.shared.await_end(timeout)
     }
 
     /// Whether it was shut down.
@@ -468,6 +494,12 @@ impl ScheduledThreadPool {
         self.threads.len()
     }
 
+    /// Whether the caller is a thread of its own.
+    fn has_current_thread(&self) -> bool {
+        let current = thread::current().id();
+        self.threads.iter().any(|it| it.thread().id() == current)
+    }
+
     /// The plan and the trace so far of a pool that keeps them.
     #[doc(hidden)]
     pub fn recording(&self) -> Option<Recording> {
@@ -490,8 +522,7 @@ impl fmt::Debug for ScheduledThreadPool {
 impl Drop for ScheduledThreadPool {
     fn drop(&mut self) {
         self.shutdown_now();
-        let current = thread::current().id();
-        if self.threads.iter().any(|it| it.thread().id() == current) {
+        if self.has_current_thread() {
             return;
         }
         for thread in self.threads.drain(..) {

@@ -4,6 +4,7 @@ use sched::timers::Counts;
 use sched::{Handle, JoinError, PoolError, ScheduledThreadPool, TimersError};
 use std::convert::Infallible;
 use std::fs;
+use std::io::ErrorKind;
 use std::process::Command;
 use std::sync::atomic::{AtomicBool, AtomicUsize, Ordering};
 use std::sync::mpsc::{self, Receiver, Sender};
@@ -745,6 +746,57 @@ fn a_job_drops_its_own_pool() {
 }
 
 #[test]
+fn a_job_that_awaits_the_end_of_its_own_pool_is_not_kept_waiting() {
+    for threads in [1, 2] {
+        let pool = Arc::new(pool(threads));
+        let inner = Arc::clone(&pool);
+        let job = pool.execute(move || {
+            inner.shutdown();
+            inner.await_termination(Duration::MAX)
+        });
+        let job = job.expect("the pool is open");
+        assert!(job.wait_timeout(LONG) && job.join() == Ok(false));
+        assert!(pool.await_termination(LONG));
+    }
+}
+
+/// How many threads of this process have a name that begins so.
+fn threads_named(front: &str) -> usize {
+    let threads = fs::read_dir("/proc/self/task").expect("a system with threads");
+    threads
+        .filter_map(|thread| fs::read_to_string(thread.ok()?.path().join("comm")).ok())
+        .filter(|name| name.starts_with(front))
+        .count()
+}
+
+#[test]
+fn pools_that_are_dropped_leave_no_thread() {
+    let named = || ScheduledThreadPool::named(3, "dropped").expect("threads");
+    let pools: Vec<ScheduledThreadPool> = (0..20).map(|_| named()).collect();
+    for pool in &pools {
+        pool.schedule(HOUR, || ()).expect("the pool is open");
+        let pulse = pool.schedule_at_fixed_rate(HOUR, HOUR, || ());
+        pulse.expect("the pool is open");
+        pool.execute(|| ()).expect("the pool is open").wait();
+    }
+    assert!(threads_named("dropped ") >= 20);
+    drop(pools);
+    assert_eq!(threads_named("dropped "), 0);
+}
+
+#[test]
+fn threads_have_the_name_of_their_pool() {
+    let pool = ScheduledThreadPool::named(2, "beat").expect("threads");
+    let name = pool.execute(|| thread::current().name().map(str::to_owned));
+    let name = name.expect("the pool is open").join().expect("it runs");
+    assert!(["beat 0", "beat 1"].contains(&name.expect("a name").as_str()));
+    let refused = ScheduledThreadPool::named(1, "no\0name").expect_err("no name");
+    assert!(matches!(&refused, PoolError::Thread(why) if why.kind() == ErrorKind::InvalidInput));
+    assert_eq!(refused.to_string(), "no thread: a name has no byte 0");
+    assert_eq!(threads_named("no"), 0);
+}
+
+#[test]
 fn what_is_not_allowed_is_refused() {
     for threads in [0, 65, 1 << 40] {
         let refused = ScheduledThreadPool::new(threads).err();
@@ -759,6 +811,10 @@ fn what_is_not_allowed_is_refused() {
     for span in [Duration::from_nanos((1 << 62) + 1), beyond, Duration::MAX] {
         let long = pool.schedule(span, || ()).expect_err("too long");
         assert_eq!(long, TimersError::TooLong);
+        assert_eq!(
+            long.to_string(),
+            "a span is above 2^62 nanoseconds, which are 4611686018 seconds"
+        );
     }
     let rate = pool.schedule_at_fixed_rate(HOUR, Duration::ZERO, || ());
     let fixed = pool.schedule_with_fixed_delay(HOUR, Duration::ZERO, || ());

@@ -10,7 +10,7 @@ use std::time::Duration;
 /// A task of a pool, by which it is cancelled, and its result is waited for.
 ///
 /// A task goes on where its handle is dropped. A handle may be shared by threads, also by the jobs of its pool; a job that waits
-/// for another one takes up a worker.
+/// for another one takes up a worker, and one that waits for itself never ends.
 ///
 /// # Examples
 ///

@@ -83,7 +83,9 @@ impl fmt::Display for TimersError {
                 );
             }
             TimersError::ZeroPeriod => "a period, or a delay between runs, is 0",
-            TimersError::TooLong => "a span is above 2^62 nanoseconds",
+            TimersError::TooLong => {
+                "a span is above 2^62 nanoseconds, which are 4611686018 seconds"
+            }
             TimersError::TooFar => "the moment is above 2^62 nanoseconds",
             TimersError::NoWorker => "there is no such worker",
             TimersError::Busy => "the worker has a run under way",
