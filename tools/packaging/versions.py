@@ -21,6 +21,7 @@ PLACES = [
     ("docs/EMBEDDING.md", r"(?<=dist/libsched0_)\d+\.\d+\.\d+(?=-1_amd64)", "{0}.{1}.{2}"),
     ("docs/EMBEDDING.md", r"(?<=dist/libsched-dev_)\d+\.\d+\.\d+(?=-1_amd64)", "{0}.{1}.{2}"),
     ("docs/EMBEDDING.md", r"(?<=dist/sched_timers-)\d+\.\d+\.\d+(?=-py3)", "{0}.{1}.{2}"),
+    ("docs/EMBEDDING.md", r"(?<=dist/sched_timers-)\d+\.\d+\.\d+(?=\.tar)", "{0}.{1}.{2}"),
     ("docs/EMBEDDING.md", r"(?<=dist/sched-rust-)\d+\.\d+\.\d+(?=\.tar)", "{0}.{1}.{2}"),
     ("docs/EMBEDDING.md", r"(?<=--path sched-rust-)\d+\.\d+\.\d+", "{0}.{1}.{2}"),
     ("crates/program_tests/src/help.rt", r"(?<=--version\nsched )\d+\.\d+\.\d+(?= )", "{0}.{1}.{2}"),

@@ -245,9 +245,9 @@ class Workers:
             self.sleepers.wake_all()
 
     def _tell_no_run(self, future: ScheduledFuture[Any]) -> None:
-        """Tells a future whose task the end of the pool has ended. The caller does not hold the
-        lock."""
-        if self._broken is None:
+        """Tells a future whose task the end of the pool has ended: it is withdrawn, unless the pool
+        is broken. The caller does not hold the lock."""
+        if future._is_withdrawn:
             future._end_cancelled()
         else:
             future.set_exception(BrokenThreadPool(self._broken))
