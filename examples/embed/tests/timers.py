@@ -160,6 +160,8 @@ def reasons():
     assert str(code) == "the code of a failure is above 4294967295" and code.before == []
     for error in (zero, policy, code, NotASpanError(float("inf"), "seconds")):
         assert isinstance(error, IllegalArgumentError) and error.status is Status.ILLEGAL
+    unknown = refuses(RuntimeError, timers._done, 99)
+    assert str(unknown) == "the library answers 99, for which there is no word here"
     timers.close()
     refuses(TimersClosedError, timers.schedule, 0, LONGEST + 1)
 

@@ -141,5 +141,8 @@ class Slotted:
 
     def _done(self, status: int, *more: object) -> None:
         """Raises the error of a call that was not done, with what more is told of it."""
-        if status != DONE:
-            raise self._errors[status](*more)
+        if status == DONE:
+            return
+        if status not in self._errors:
+            raise RuntimeError(f"the library answers {status}, for which there is no word here")
+        raise self._errors[status](*more)

@@ -25,11 +25,12 @@ import time
 import weakref
 from collections.abc import Callable
 from concurrent.futures.thread import BrokenThreadPool
+from dataclasses import dataclass
 from typing import Any, TypeVar
 
 from sched_timers._sleepers import Sleepers
 from sched_timers._spans import NANOSECONDS
-from sched_timers.scheduled_future import Job, ScheduledFuture
+from sched_timers.scheduled_future import ScheduledFuture
 from sched_timers.timers import Outcome, Phase, Policy, TaskRef, Timers
 
 T = TypeVar("T")
@@ -37,6 +38,15 @@ T = TypeVar("T")
 FAILURE = 1
 LOGGER = logging.getLogger("sched_timers")
 _ALL: weakref.WeakSet[Workers] = weakref.WeakSet()
+
+
+@dataclass(eq=False)
+class Job:
+    """What a task calls, and the future that tells what came of it."""
+
+    future: ScheduledFuture[Any]
+    call: Callable[[], Any]
+    is_periodic: bool
 
 
 class Workers:

@@ -2,17 +2,15 @@
 
 from __future__ import annotations
 
-from collections.abc import Callable
 from concurrent.futures import Future
-from dataclasses import dataclass
-from typing import TYPE_CHECKING, Any, TypeVar
+from typing import TYPE_CHECKING, TypeVar
 
 from sched_timers.timers_answers import TaskRef
 
 if TYPE_CHECKING:
     from sched_timers._pool_workers import Workers
 
-__all__ = ["Job", "ScheduledFuture"]
+__all__ = ["ScheduledFuture"]
 
 T = TypeVar("T")
 
@@ -48,12 +46,3 @@ class ScheduledFuture(Future[T]):
         withdrew it, without the lock."""
         super().cancel()
         self.set_running_or_notify_cancel()
-
-
-@dataclass(eq=False)
-class Job:
-    """What a task calls, and the future that tells what came of it."""
-
-    future: ScheduledFuture[Any]
-    call: Callable[[], Any]
-    is_periodic: bool

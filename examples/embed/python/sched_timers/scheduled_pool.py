@@ -64,7 +64,7 @@ class ScheduledThreadPoolExecutor(Executor):
                  initializer: Callable[..., object] | None = None,
                  initargs: tuple[Any, ...] = ()) -> None:
         if initializer is not None and not callable(initializer):
-            raise TypeError(f"an initializer is called, and {initializer!r} can not be")
+            raise TypeError("initializer must be a callable")
         self._name = thread_name_prefix or f"{type(self).__name__}-{next(_POOL_NUMBERS)}"
         count = _usual_count() if max_workers is None else whole(max_workers)
         self._workers = Workers(count, self._name, initializer, initargs)
