@@ -201,10 +201,13 @@ def try_wheel(trials: Trials, parts: Parts, packages: dict[str, bytes], folder: 
                 shutil.copy(wheel.SOURCE / example, folder)
                 found = output([python, "-I", folder / example], environment=environment, folder=folder)
                 expect(found, (wheel.SOURCE / wanted).read_text())
-    with trials.step("wheel and source archive: the same bytes once more"):
-        again = wheel.package(Parts(parts.version))
+    with trials.step("wheel and source archive: the same bytes once more, and without the program"):
+        anew = Parts(parts.version)
+        again = wheel.package(anew)
         if again.items() - packages.items():
             raise ToolError(f"other bytes: {[name for name in again if again[name] != packages.get(name)]}")
+        if vars(anew).keys() & {"program", "program_machine", "pages"}:
+            raise ToolError("the program was built for a wheel")
 
 
 def crate_user(folder: Path, dependency: Path) -> Path:
