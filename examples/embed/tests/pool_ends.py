@@ -33,6 +33,20 @@ def own_jobs():
             assert pool.submit(pool.shutdown, False).result(PATIENCE) is None
 
 
+def waits():
+    """Who waits for the end of a pool waits as long as is said, and for ever where that is more
+    than a thread can."""
+    with pool_of(2) as pool:
+        for timeout in (0, -1, float("-inf"), float("nan"), 0.01):
+            assert not pool.await_termination(timeout)
+    for timeout in (1e300, float("inf"), 10**400, None):
+        with pool_of(2) as pool, pool_of(1) as other:
+            waiter = other.submit(pool.await_termination, timeout)
+            wait_until(waiter.running)
+            pool.shutdown(wait=False)
+            assert waiter.result(PATIENCE) is True
+
+
 def dropped(make):
     """Makes 20 pools, each named by its number, and drops them: all threads have to end."""
     before = set(threading.enumerate())
@@ -181,5 +195,5 @@ def forked():
     assert ended.returncode == 0 and ended.stdout == "child 5\n", ended.stdout
 
 
-try_all(own_jobs, drops, drops_in_use, drops_by_jobs, program_ends, forked)
+try_all(own_jobs, waits, drops, drops_in_use, drops_by_jobs, program_ends, forked)
 print("each answer came")

@@ -36,6 +36,7 @@ from sched_timers.timers import Outcome, Phase, Policy, TaskRef, Timers
 T = TypeVar("T")
 
 FAILURE = 1
+LONGEST_WAIT = threading.TIMEOUT_MAX / 2   # seconds, some 146 years
 LOGGER = logging.getLogger("sched_timers")
 _ALL: weakref.WeakSet[Workers] = weakref.WeakSet()
 
@@ -151,7 +152,7 @@ class Workers:
         ended. One of them would wait for itself."""
         if threading.current_thread() in self.threads:
             raise RuntimeError("cannot join current thread")
-        deadline = None if timeout is None else time.monotonic() + timeout
+        deadline = None if timeout is None else time.monotonic() + min(timeout, LONGEST_WAIT)
         for thread in self.threads:
             thread.join(None if deadline is None else max(0.0, deadline - time.monotonic()))
         return self.have_ended()
