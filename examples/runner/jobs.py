@@ -8,6 +8,7 @@ from dataclasses import dataclass
 from pathlib import Path
 
 from basics import SECOND, Fault
+from lines import line_of
 
 LONGEST_SPAN_S = 2**62 / SECOND
 MOST_RETRIES = 1_000
@@ -116,39 +117,64 @@ KEYS = {
 }
 
 
-def job_of(name: str, table: object) -> Job:
+@dataclass(frozen=True)
+class Source:
+    """A file of jobs, which is named at each fault in it."""
+
+    path: str
+    text: str
+
+    def fault(self, text: str, *place: str) -> Fault:
+        """A fault at a table, or at a key of one, with its line where that is known."""
+        line = line_of(self.text, place) if place else None
+        return Fault(f"jobs: {self.path}:{f'{line}:' if line else ''} {text}")
+
+
+def read_source(path: str) -> Source:
+    """The file of jobs as a text."""
+    try:
+        content = Path(path).read_bytes()
+    except OSError as error:
+        raise Fault(f"jobs: {path!r} not read: {error.strerror}") from error
+    try:
+        return Source(path, content.decode())
+    except UnicodeDecodeError as error:
+        line = content.count(b"\n", 0, error.start) + 1
+        raise Fault(f"jobs: {path}:{line}: Toml: byte {content[error.start]:#04x} is no UTF-8") from error
+
+
+def job_of(name: str, table: object, source: Source) -> Job:
     """The job of a table of JOBS."""
     if not isinstance(table, dict):
-        raise Fault(f"jobs: WrongType {name!r}: a table is wanted")
+        raise source.fault(f"WrongType {name!r}: a table is wanted", name)
     for word in sorted(table.keys() - KEYS.keys()):
-        raise Fault(f"jobs: UnknownKey {name!r} {word!r}")
+        raise source.fault(f"UnknownKey {name!r} {word!r}: the keys are {', '.join(KEYS)}", name, word)
     fields = {}
     for word, key in KEYS.items():
         try:
             fields[key.field] = key.read(table.get(word))
         except ValueError as error:
-            raise Fault(f"jobs: {key.fault} {name!r}: {key.wanted}") from error
+            place = (name, word) if word in table else (name,)
+            raise source.fault(f"{key.fault} {name!r}: {key.wanted}", *place) from error
     return Job(**fields)
 
 
-def read_jobs(path: str, names: set[str]) -> dict[str, Job]:
+def read_jobs(source: Source, names: set[str]) -> dict[str, Job]:
     """The jobs of the file, by their names, which are the names of the plan's tasks."""
     try:
-        tables = tomllib.loads(Path(path).read_bytes().decode())
-    except OSError as error:
-        raise Fault(f"jobs: file not read: {error.strerror}") from error
+        tables = tomllib.loads(source.text)
     except (ValueError, RecursionError) as error:
-        raise Fault(f"jobs: Toml: {error}") from error
+        raise source.fault(f"Toml: {error}") from error
     for name in sorted(tables.keys() - names):
-        raise Fault(f"jobs: UnknownName {name!r}: no task of the plan has it")
+        raise source.fault(f"UnknownName {name!r}: no task of the plan has it", name)
     for name in sorted(names - tables.keys()):
-        raise Fault(f"jobs: Missing {name!r}: a task of the plan has no job")
-    return {name: job_of(name, table) for name, table in tables.items()}
+        raise source.fault(f"Missing {name!r}: a task of the plan has no job")
+    return {name: job_of(name, table, source) for name, table in tables.items()}
 
 
-def keep_outputs_from(files: Iterable[str], jobs: dict[str, Job]) -> None:
+def keep_outputs_from(files: Iterable[str], jobs: dict[str, Job], source: Source) -> None:
     """No job may write into these files, which are the runner's own."""
     taken = {os.path.realpath(os.fsencode(file)) for file in files}
     for name, job in jobs.items():
         if job.output is not None and os.path.realpath(job.output) in taken:
-            raise Fault(f"jobs: BadOutput {name!r}: the file is the plan, the jobs or the trace")
+            raise source.fault(f"BadOutput {name!r}: the file is the plan, the jobs or the trace", name, "output")

@@ -1,5 +1,6 @@
 """The plan, as the program tells it before anything runs."""
 
+import os
 import subprocess
 from collections import deque
 
@@ -24,15 +25,24 @@ def reason(program: str, plan: str) -> str:
 
 def printed(program: str, command: str, plan: str) -> list[str]:
     """The lines that the program prints of the plan. A fault is told by its own line, and by the reason where it has one."""
-    status, lines, said = asked(program, command, plan)
+    path = os.path.abspath(plan)
+    status, lines, said = asked(program, command, path)
     if said:
         tell(said)
     if status:
-        why = reason(program, plan)
+        why = reason(program, path)
         if why not in said:
             tell(why)
-        raise Fault(f"plan: 'sched {command}' ended with status {status}")
+        raise Fault(f"plan: {plan!r}: 'sched {command}' ended with status {status}")
     return lines.splitlines()
+
+
+def look_at(plan: str) -> None:
+    """The program would not say why a file can't be read."""
+    try:
+        open(plan, "rb").close()
+    except OSError as error:
+        raise Fault(f"plan: {plan!r} not read: {error.strerror}") from error
 
 
 def call_moments(listing: list[str]) -> deque[int]:
@@ -53,6 +63,7 @@ def call_moments(listing: list[str]) -> deque[int]:
 
 def read_plan(program: str, plan: str) -> tuple[list[str], deque[int]]:
     """The name of each task, by its number, and the moments of the plan's calls."""
+    look_at(plan)
     try:
         tasks = [line.split()[:2] for line in printed(program, "tasks", plan)]
         names = [name for _, name in tasks]

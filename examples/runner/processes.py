@@ -67,7 +67,8 @@ def started(job: Job, header: bytes) -> subprocess.Popen:
     except OSError as error:
         if job.directory is not None and error.filename == job.directory:
             raise refusal(error, f"directory {os.fsdecode(job.directory)!r}: ") from error
-        raise refusal(error, code=NOT_FOUND if isinstance(error, FileNotFoundError) else NOT_STARTED) from error
+        code = NOT_FOUND if isinstance(error, FileNotFoundError) else NOT_STARTED
+        raise refusal(error, f"{os.fsdecode(job.command[0])!r}: ", code) from error
     finally:
         if output is not None:
             os.close(output)

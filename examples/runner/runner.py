@@ -37,6 +37,7 @@ run failed and else 3, 1 at a fault, which a line on standard error names, and 2
 """
 
 import argparse
+import errno
 import os
 import shutil
 import signal
@@ -46,12 +47,12 @@ from pathlib import Path
 sys.dont_write_bytecode = True
 from basics import Fault, tell
 from executor import PART, Executor
-from jobs import keep_outputs_from, read_jobs
+from jobs import keep_outputs_from, read_jobs, read_source
 from loop import Runner
 from plans import read_plan
 from start import FORMS, When, read_when, shown, start_at
 
-BUILT = Path(__file__).resolve().parents[2] / "crates" / "sched" / "out" / "sched"
+BUILT = Path(os.path.normpath(Path(__file__).resolve().parent / "../../crates/sched/out/sched"))
 MOST_WORKERS = 64
 DONE, FAULT, FAILED = 0, 1, 3
 
@@ -71,13 +72,13 @@ def when(text: str) -> When:
 
 def arguments() -> argparse.Namespace:
     about = "Runs real jobs by a plan of sched, as the machine's clock goes."
-    parser = argparse.ArgumentParser(prog="runner.py", description=about, allow_abbrev=False)
+    parser = argparse.ArgumentParser(prog=os.path.basename(sys.argv[0]), description=about, allow_abbrev=False)
     parser.add_argument("plan", metavar="PLAN", help="the plan, a file as 'sched run' takes it")
     parser.add_argument("jobs", metavar="JOBS", help="a file of TOML: for each name of a task its command and timeout_s")
     parser.add_argument("--workers", metavar="N", type=worker_count, required=True, help="how many jobs run at a time, 1 to 64")
     parser.add_argument("--start-at", metavar="WHEN", type=when, help=f"when the plan starts, {FORMS}; now where left out")
     parser.add_argument("--trace", metavar="FILE", default="trace.txt", help="the trace's file, trace.txt where left out")
-    parser.add_argument("--sched", metavar="PROGRAM", help="the program 'sched', the built one where left out")
+    parser.add_argument("--sched", metavar="PROGRAM", help="the program 'sched', the built one or the PATH's where left out")
     return parser.parse_args()
 
 
@@ -86,8 +87,19 @@ def program_named(name: str | None) -> str:
     sought = name or (str(BUILT) if BUILT.exists() else "sched")
     program = shutil.which(sought)
     if program is None:
-        raise Fault(f"program: {sought!r} not found")
+        raise Fault(f"program: {sought!r} {why_not_found(sought)}")
     return program
+
+
+def why_not_found(sought: str) -> str:
+    """Why there is no such program that may be run."""
+    if not os.path.dirname(sought):
+        return "not found: no folder of the PATH has it"
+    try:
+        os.stat(sought)
+    except OSError as error:
+        return f"not found: {error.strerror}"
+    return f"not started: {os.strerror(errno.EISDIR if os.path.isdir(sought) else errno.EACCES)}"
 
 
 def wakes_by_signals() -> int:
@@ -110,9 +122,10 @@ def serve(asked: argparse.Namespace) -> int:
     for written in (asked.trace, asked.trace + PART):
         if os.path.realpath(written) in (os.path.realpath(plan), os.path.realpath(asked.jobs)):
             raise Fault(f"trace: {written!r} is the plan or the jobs")
-    names, calls = read_plan(program, plan)
-    jobs = read_jobs(asked.jobs, set(names))
-    keep_outputs_from((plan, asked.jobs, asked.trace, asked.trace + PART), jobs)
+    names, calls = read_plan(program, asked.plan)
+    source = read_source(asked.jobs)
+    jobs = read_jobs(source, set(names))
+    keep_outputs_from((plan, asked.jobs, asked.trace, asked.trace + PART), jobs, source)
     executor = Executor(program, plan, asked.workers, asked.trace)
     runner = Runner(executor, names, calls, jobs, signals)
     if start is not None:

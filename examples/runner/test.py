@@ -35,7 +35,7 @@ TESTS: list[Callable[[str], Checks]] = [
     keys.few_descriptors, keys.stops_a_wait, keys.few_processes, keys.ignored_ends,
     starts.meant, starts.badly_written, starts.waits, starts.at_a_moment, starts.held_up_before, starts.is_stopped,
     starts.dies_before,
-    refusals.bad_jobs, refusals.bad_words, refusals.refused_plan, refusals.no_second_start, refusals.listings,
+    refusals.bad_jobs, refusals.places, refusals.bad_words, refusals.refused_plan, refusals.no_second_start, refusals.listings,
 ]
 
 

@@ -182,4 +182,5 @@ def ends(program: str) -> Checks:
         codes = {line[4]: line[7:] for line in session.trace("finish")}
         wanted = {"0": ["failed", "127"], "1": ["failed", "126"], "2": ["failed", "3"], "3": ["failed", "137"]}
         yield "each has its code", codes == wanted
-        yield "a command that is not there is told", "runner: gone not started: No such file or directory\n" in session.told
+        for name, path, why in (("gone", "/no/such/program", "No such file or directory"), ("folder", "/", "Permission denied")):
+            yield f"{name}: it is told", f"runner: {name} not started: {path!r}: {why}\n" in session.told
