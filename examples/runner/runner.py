@@ -46,11 +46,12 @@ from pathlib import Path
 
 sys.dont_write_bytecode = True
 from basics import Fault, tell
-from executor import PART, Executor
+from executor import Executor
 from jobs import keep_outputs_from, read_jobs, read_source
 from loop import Runner
 from plans import read_plan
-from start import FORMS, When, read_when, shown, start_at
+from start import FORMS, Start, When, read_when, shown, start_at
+from traces import LOCK, Trace
 
 BUILT = Path(os.path.normpath(Path(__file__).resolve().parent / "../../crates/sched/out/sched"))
 MOST_WORKERS = 64
@@ -114,30 +115,44 @@ def wakes_by_signals() -> int:
     return reading
 
 
+def keep_apart(asked: argparse.Namespace) -> None:
+    """The trace is written in place of its file, and the lock is taken away."""
+    read = [os.path.realpath(file) for file in (asked.plan, asked.jobs)]
+    for written in (asked.trace, asked.trace + LOCK):
+        if os.path.realpath(written) in read:
+            raise Fault(f"trace: {written!r} is the plan or the jobs")
+
+
 def serve(asked: argparse.Namespace) -> int:
     """Does what is asked for, and answers the status. All that is read is looked at before the trace is begun."""
     start = None if asked.start_at is None else start_at(asked.start_at)
     signals = wakes_by_signals()
-    program, plan = program_named(asked.sched), os.path.abspath(asked.plan)
-    for written in (asked.trace, asked.trace + PART):
-        if os.path.realpath(written) in (os.path.realpath(plan), os.path.realpath(asked.jobs)):
-            raise Fault(f"trace: {written!r} is the plan or the jobs")
+    program = program_named(asked.sched)
+    keep_apart(asked)
     names, calls = read_plan(program, asked.plan)
     source = read_source(asked.jobs)
     jobs = read_jobs(source, set(names))
-    keep_outputs_from((plan, asked.jobs, asked.trace, asked.trace + PART), jobs, source)
-    executor = Executor(program, plan, asked.workers, asked.trace)
-    runner = Runner(executor, names, calls, jobs, signals)
+    trace = Trace(asked.trace)
+    try:
+        keep_outputs_from((asked.plan, asked.jobs, trace.path, trace.part, trace.lock), jobs, source)
+        executor = Executor(program, os.path.abspath(asked.plan), asked.workers, trace)
+        return run(Runner(executor, names, calls, jobs, signals), start)
+    except Fault as fault:
+        raise Fault(f"{fault}{trace.rest()}") from fault
+    finally:
+        trace.free()
+
+
+def run(runner: Runner, start: Start | None) -> int:
+    """Runs the plan, and tells what came of it."""
     if start is not None:
         tell(f"starts at {shown(start.moment)}")
     try:
         if runner.run(start):
-            executor.close()
-        else:
-            executor.discard()
+            runner.executor.close()
     finally:
         runner.end_all()
-        executor.abandon()
+        runner.executor.abandon()
     tell(f"runs {runner.runs}, failed {runner.failed}")
     return FAILED if runner.failed else DONE
 

@@ -1,6 +1,6 @@
 #!/usr/bin/env python3
-"""Tries the runner: four plans with real processes, signals, its sleep, a program that dies, the keys of jobs, starts by the
-wall clock, and bad input.
+"""Tries the runner: four plans with real processes, signals, its sleep, a program that dies, the keys of jobs, two
+runners in one folder, starts by the wall clock, and bad input.
 
     examples/runner/test.py [PROGRAM]
 
@@ -19,6 +19,7 @@ from pathlib import Path
 
 sys.dont_write_bytecode = True
 sys.path.insert(1, str(Path(__file__).resolve().parent / "tests"))
+import holds
 import keys
 import refusals
 import scenes
@@ -33,6 +34,7 @@ TESTS: list[Callable[[str], Checks]] = [
     scenes.held_up, scenes.ends,
     keys.goes_on, keys.places, keys.paths, keys.places_at_fault, keys.retries, keys.pauses_end, keys.plan_cancels,
     keys.few_descriptors, keys.stops_a_wait, keys.few_processes, keys.ignored_ends,
+    holds.one_file, holds.six_at_once, holds.left_parts, holds.no_room, holds.other_files,
     starts.meant, starts.badly_written, starts.waits, starts.at_a_moment, starts.held_up_before, starts.is_stopped,
     starts.dies_before,
     refusals.bad_jobs, refusals.places, refusals.bad_words, refusals.refused_plan, refusals.no_second_start, refusals.listings,

@@ -84,8 +84,12 @@ BAD_WORDS = {
         ["--workers", "1", "--sched", "./plan.toml"], 1, "runner: program: './plan.toml' not started: Permission denied\n"),
     "a folder as the program": (["--workers", "1", "--sched", "/"], 1, "runner: program: '/' not started: Is a directory\n"),
     "another program": (["--workers", "1", "--sched", shutil.which("echo")], 1, "is no 'sched'\n"),
-    "a trace in no folder": (["--workers", "1", "--trace", "no/trace"], 1, "trace: 'no/trace.part' not written: "),
-    "a folder as the trace": (["--workers", "1", "--trace", "."], 1, "runner: trace: '.' can't be a file\n"),
+    "a trace in no folder": (
+        ["--workers", "1", "--trace", "no/trace"], 1, "trace: 'no/trace.lock' not written: No such file or directory\n"),
+    "a folder as the trace": (["--workers", "1", "--trace", "."], 1, "runner: trace: '.' not written: Is a directory\n"),
+    "a trace without a name": (["--workers", "1", "--trace", "no/"], 1, "runner: trace: 'no/' not written: Is a directory\n"),
+    "a pipe as the trace": (
+        ["--workers", "1", "--trace", "control"], 1, "runner: trace: 'control' not written: it is no regular file\n"),
     "the jobs as the trace": (["--workers", "1", "--trace", "./jobs.toml"], 1, "'./jobs.toml' is the plan or the jobs\n"),
 }
 
@@ -115,7 +119,7 @@ def bad_jobs(program: str) -> Checks:
         yield f"{text} by the runner", refused(Session(program, PLAN, cases[0], "--workers", "1"), 1, "runner: " + text)
         for case in cases:
             yield f"{text} {case[-40:]!r}", fault_of(case).startswith(text)
-    for file in ("plan.toml", "./jobs.toml", "trace.txt", "trace.txt.part"):
+    for file in ("plan.toml", "./jobs.toml", "trace.txt", "trace.txt.part", "trace.txt.lock"):
         session = Session(program, PLAN, JOBS + f'output = "{file}"\n', "--workers", "1")
         told = "runner: jobs: jobs.toml:4: BadOutput 'a': the file is the plan, the jobs or the trace\n"
         yield f"{file} as the output", refused(session, 1, told)
@@ -132,8 +136,8 @@ def bad_words(program: str) -> Checks:
     for name, (words, status, text) in BAD_WORDS.items():
         yield name, refused(Session(program, PLAN, JOBS, *words), status, text)
     session = Session(program, PLAN, JOBS, "--workers", "1", "--trace", "t")
-    (session.folder / "t.part").symlink_to("jobs.toml")
-    yield "the jobs as the part of the trace", refused(session, 1, "'t.part' is the plan or the jobs\n")
+    (session.folder / "t.lock").symlink_to("jobs.toml")
+    yield "the jobs as the lock of the trace", refused(session, 1, "runner: trace: 't.lock' is the plan or the jobs\n")
     for name, fault in (("plan.toml", "plan: 'plan.toml'"), ("jobs.toml", "jobs: 'jobs.toml'")):
         session = Session(program, PLAN, JOBS, "--workers", "1")
         (session.folder / name).unlink()

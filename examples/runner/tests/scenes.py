@@ -150,7 +150,8 @@ def dies(program: str) -> Checks:
         for child in set(children(session.runner.pid)) - {job}:
             os.kill(child, signal.SIGKILL)
         yield "status 1", session.status() == 1
-        yield "it is told", "runner: program: ended too early; the trace up to then is 'trace.txt.part'\n" in session.told
+        text = f"runner: program: {program!r} ended too early, by signal 9; the trace up to then is 'trace.txt.part'\n"
+        yield "it is told", text in session.told
         yield "the job has ended", not is_there(job)
         yield "there is no trace", "trace.txt" not in session.files()
         yield "its front conforms", session.conforms("trace.txt.part")

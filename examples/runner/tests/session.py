@@ -9,6 +9,7 @@ import sys
 import tempfile
 import time
 from collections.abc import Callable, Iterator
+from datetime import datetime, timedelta
 from pathlib import Path
 
 HERE = Path(__file__).resolve().parents[1]
@@ -18,6 +19,8 @@ IDLE_SHARE = 0.75
 Checks = Iterator[tuple[str, bool]]
 PLAN = 'version = 2\n[[block]]\n[[block.call]]\nop = "execute"\nname = "a"\n'
 JOBS = '[a]\ncommand = ["true"]\ntimeout_s = 1\n'
+# What a job does that runs until it is let go.
+WAITS = "echo $$ > begun; until test -e go; do sleep 0.05; done"
 
 
 def processor_times() -> tuple[int, int]:
@@ -44,6 +47,11 @@ def soon(holds: Callable[[], bool]) -> bool:
     while not holds() and time.monotonic() < end:
         time.sleep(0.01)
     return holds()
+
+
+def much_later() -> str:
+    """A moment of the wall clock for which no test waits."""
+    return (datetime.now() + timedelta(days=2)).strftime("%Y-%m-%dT%H:%M")
 
 
 def plan_of(*names: str, op: str = "execute", rest: str = "") -> str:
@@ -89,6 +97,19 @@ class Session:
         os.close(self.control)
         shutil.rmtree(self.folder)
 
+    def second(self, *words: str, seconds: float = 0) -> tuple[int | None, str]:
+        """The status of another runner in the same folder, whose job takes so long, and what it tells. The status is none where
+        it does not end."""
+        (self.folder / "plan-2.toml").write_text(PLAN)
+        (self.folder / "jobs-2.toml").write_text(job_of("a", f"sleep {seconds}"))
+        command = [sys.executable, HERE / "runner.py", "plan-2.toml", "jobs-2.toml", "--workers", "1", "--sched", self.program]
+        try:
+            ran = subprocess.run([*command, *words], cwd=self.folder, stdin=subprocess.DEVNULL, capture_output=True, text=True,
+                                 timeout=SECONDS)
+        except subprocess.TimeoutExpired:
+            return None, ""
+        return ran.returncode, ran.stderr
+
     def say(self, line: str) -> None:
         os.write(self.control, f"{line}\n".encode())
 
@@ -131,9 +152,14 @@ class Session:
             ends.setdefault(line[4], []).append(line[7:])
         return ends
 
-    def conforms(self, trace: str = "trace.txt") -> bool:
-        words = [self.program, "check", self.plan, self.folder / trace, "--workers", self.workers]
+    def conforms(self, trace: str = "trace.txt", plan: str = "plan.toml", workers: str = "") -> bool:
+        words = [self.program, "check", self.folder / plan, self.folder / trace, "--workers", workers or self.workers]
         return subprocess.run(words, capture_output=True, text=True).stdout == "conforms\n"
+
+
+def let_go(session: Session) -> None:
+    """Lets jobs end that wait for it."""
+    (session.folder / "go").touch()
 
 
 def lateness(session: Session, workers_suffice: bool) -> int:
@@ -153,7 +179,7 @@ def of_session(session: Session, workers_suffice: bool = True, failed: int = 0) 
     status = session.status()
     yield f"status {3 if failed else 0}", status == (3 if failed else 0)
     yield "the trace conforms", session.conforms()
-    yield "the trace is whole", "trace.txt.part" not in session.files()
+    yield "the trace is whole", not {"trace.txt.part", "trace.txt.lock"} & set(session.files())
     starts = session.trace("start")
     yield "no start is before its due moment", starts != [] and all(int(line[0]) >= int(line[8]) for line in starts)
     runs = re.findall(r"^\d+\.\d{3} s \S+ task \d+ run \d+: (ok|failed)", session.told, re.MULTILINE)

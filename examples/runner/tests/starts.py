@@ -5,10 +5,10 @@ import signal
 import time
 from collections.abc import Iterator
 from contextlib import contextmanager
-from datetime import datetime, timedelta
+from datetime import datetime
 
 from basics import SECOND, Fault
-from session import JOBS, PLAN, Checks, Session, children, job_of, of_session, plan_of
+from session import JOBS, PLAN, Checks, Session, children, job_of, much_later, of_session, plan_of
 from start import Start, read_when
 
 BERLIN = "CET-1CEST,M3.5.0,M10.5.0/3"
@@ -137,9 +137,8 @@ def held_up_before(program: str) -> Checks:
 
 def is_stopped(program: str) -> Checks:
     """At a signal before the start nothing runs, and a trace that was there stays."""
-    later = (datetime.now() + timedelta(days=2)).strftime("%Y-%m-%dT%H:%M")
     for number in (signal.SIGTERM, signal.SIGINT):
-        session = Session(program, PLAN, JOBS, "--workers", "1", "--start-at", later)
+        session = Session(program, PLAN, JOBS, "--workers", "1", "--start-at", much_later())
         (session.folder / "trace.txt").write_text("an old one\n")
         with session:
             yield "it waits", session.hears("starts at ")
@@ -151,13 +150,13 @@ def is_stopped(program: str) -> Checks:
 
 def dies_before(program: str) -> Checks:
     """Where the program dies before the start, the runner tells it at once."""
-    later = (datetime.now() + timedelta(hours=2)).strftime("%H:%M")
-    with Session(program, PLAN, JOBS, "--workers", "1", "--start-at", later) as session:
+    with Session(program, PLAN, JOBS, "--workers", "1", "--start-at", much_later()) as session:
         yield "it waits", session.hears("starts at ")
         for child in children(session.runner.pid):
             os.kill(child, signal.SIGKILL)
         yield "status 1", session.status() == 1
-        yield "it is told", "runner: program: ended too early; the trace up to then is 'trace.txt.part'\n" in session.told
+        yield "it is told", session.told.endswith(f"\nrunner: program: {program!r} ended too early, by signal 9\n")
+        yield "nothing is left", session.files() == session.made
 
 
 def badly_written(_: str) -> Checks:
