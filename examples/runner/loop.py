@@ -47,7 +47,7 @@ class Runner:
         self.idle = set(range(executor.workers))
         self.waiting: dict[int, int] = {}
         self.running: dict[int, Run] = {}
-        self.runs = self.failed = 0
+        self.runs = self.failed = self.refused = 0
         self.is_stopping = False
         self.rest = b""
         self.origin: int | None = None
@@ -110,6 +110,9 @@ class Runner:
             match words[1:]:
                 case ["submit", task, _, "due", due] | ["finish", _, "task", task, "run", _, "again", "due", due]:
                     self.waiting[int(task)] = int(due)
+                case ["refuse", task, why]:
+                    self.refused += 1
+                    self.tell(int(words[0]), f"{self.names[int(task)]} task {task}: refused {why}")
                 case ["cancel" | "outside", task, "yes"]:
                     self.waiting.pop(int(task), None)
                     self.note_cancelled(int(task))

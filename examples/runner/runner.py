@@ -55,7 +55,7 @@ from traces import LOCK, Trace
 
 BUILT = Path(os.path.normpath(Path(__file__).resolve().parent / "../../crates/sched/out/sched"))
 MOST_WORKERS = 64
-DONE, FAULT, FAILED = 0, 1, 3
+DONE, FAULT, FAILED, REFUSED = 0, 1, 3, 4
 
 
 def worker_count(text: str) -> int:
@@ -153,8 +153,8 @@ def run(runner: Runner, start: Start | None) -> int:
     finally:
         runner.end_all()
         runner.executor.abandon()
-    tell(f"runs {runner.runs}, failed {runner.failed}")
-    return FAILED if runner.failed else DONE
+    tell(f"runs {runner.runs}, failed {runner.failed}" + (f", refused {runner.refused}" if runner.refused else ""))
+    return FAILED if runner.failed else REFUSED if runner.refused else DONE
 
 
 def main() -> int:

@@ -31,7 +31,7 @@ from session import Checks
 TESTS: list[Callable[[str], Checks]] = [
     scenes.heartbeat, scenes.retry, scenes.timeout, scenes.cancel,
     partial(scenes.stops, number=signal.SIGTERM), partial(scenes.stops, number=signal.SIGINT), scenes.sleeps, scenes.dies,
-    scenes.held_up, scenes.ends,
+    scenes.held_up, scenes.ends, scenes.refuses,
     keys.goes_on, keys.places, keys.paths, keys.places_at_fault, keys.retries, keys.pauses_end, keys.plan_cancels,
     keys.few_descriptors, keys.stops_a_wait, keys.few_processes, keys.ignored_ends,
     holds.one_file, holds.six_at_once, holds.left_parts, holds.no_room, holds.other_files,

@@ -7,7 +7,7 @@ import subprocess
 import time
 from pathlib import Path
 
-from session import HERE, PLAN, Checks, Session, children, is_there, of_session, soon
+from session import HERE, PLAN, Checks, Session, children, is_there, job_of, of_session, plan_of, soon
 
 LONGEST_PLAN = 5_000_000_000
 
@@ -172,16 +172,40 @@ def held_up(program: str) -> Checks:
 
 
 def ends(program: str) -> Checks:
-    """Commands that are not there, are none, fail, and are ended by a signal; of a task that is refused nothing runs."""
+    """Commands that are not there, are none, fail, and are ended by a signal; of a task that is refused nothing runs, and a
+    failure counts more."""
     commands = {"gone": '["/no/such/program"]', "folder": '["/"]', "fails": '["sh", "-c", "exit 3"]',
                 "killed": '["sh", "-c", "kill -9 $$"]', "illegal": '["false"]'}
     calls = [f'[[block.call]]\nop = "execute"\nname = "{name}"\n' for name in commands if name != "illegal"]
     calls.append('[[block.call]]\nop = "rate"\nname = "illegal"\nfirst = 0\nperiod = 0\n')
     jobs = "".join(f"[{name}]\ncommand = {command}\ntimeout_s = 5\n" for name, command in commands.items())
     with Session(program, "version = 2\n[[block]]\n" + "".join(calls), jobs, "--workers", "4") as session:
-        yield from of_session(session, failed=4)
+        yield from of_session(session, failed=4, refused=1)
         codes = {line[4]: line[7:] for line in session.trace("finish")}
         wanted = {"0": ["failed", "127"], "1": ["failed", "126"], "2": ["failed", "3"], "3": ["failed", "137"]}
         yield "each has its code", codes == wanted
         for name, path, why in (("gone", "/no/such/program", "No such file or directory"), ("folder", "/", "Permission denied")):
             yield f"{name}: it is told", f"runner: {name} not started: {path!r}: {why}\n" in session.told
+
+
+def refuses(program: str) -> Checks:
+    """Tasks that are refused are told, with the reason, and counted: here the first, and those after a shutdown."""
+    calls = '[[block.call]]\nop = "{}"\nname = "still"\nfirst = 0\n{} = 0\n'
+    shut = '[[block.call]]\nop = "shutdown"\nat = 200\nat_unit = "ms"\n'
+    late = '[[block]]\nat = 300\nat_unit = "ms"\ntimes = 2\nevery = 100\nevery_unit = "ms"\n' + \
+        '[[block.call]]\nop = "execute"\nname = "late"\n'
+    for op, key in (("rate", "period"), ("fixed", "delay")):
+        plan = "version = 2\n[[block]]\n" + calls.format(op, key) + plan_of("a").split("[[block]]\n")[1] + shut + late
+        jobs = "".join(job_of(name, "true") for name in ("still", "a", "late"))
+        with Session(program, plan, jobs, "--workers", "1") as session:
+            yield from of_session(session, refused=3)
+            yield f"{op}: each is told once", [line for line in session.told.splitlines() if "refused" in line] == [
+                "0.000 s still task 0: refused illegal", "0.300 s late task 2: refused rejected",
+                "0.400 s late task 3: refused rejected", "runs 1, failed 0, refused 3"]
+            yield f"{op}: as the trace has it", [line[1:] for line in session.trace("refuse")] == [
+                ["refuse", "0", "illegal"], ["refuse", "2", "rejected"], ["refuse", "3", "rejected"]]
+    plan = "version = 2\n[[block]]\n" + calls.format("rate", "period")
+    with Session(program, plan, job_of("still", "true"), "--workers", "1") as session:
+        yield "where nothing runs: status 4", session.status() == 4
+        yield "and all that is told", session.told == "0.000 s still task 0: refused illegal\nruns 0, failed 0, refused 1\n"
+        yield "and the trace", session.conforms() and len(session.trace("refuse")) == 1

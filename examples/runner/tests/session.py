@@ -174,10 +174,10 @@ def lateness(session: Session, workers_suffice: bool) -> int:
     return max(late)
 
 
-def of_session(session: Session, workers_suffice: bool = True, failed: int = 0) -> Checks:
-    """What holds of each run of a plan that came to its end, where so many runs failed."""
-    status = session.status()
-    yield f"status {3 if failed else 0}", status == (3 if failed else 0)
+def of_session(session: Session, workers_suffice: bool = True, failed: int = 0, refused: int = 0) -> Checks:
+    """What holds of each run of a plan that came to its end, where so many runs failed, and so many tasks were refused."""
+    status, wanted = session.status(), 3 if failed else 4 if refused else 0
+    yield f"status {wanted}", status == wanted
     yield "the trace conforms", session.conforms()
     yield "the trace is whole", not {"trace.txt.part", "trace.txt.lock"} & set(session.files())
     starts = session.trace("start")
@@ -185,7 +185,8 @@ def of_session(session: Session, workers_suffice: bool = True, failed: int = 0) 
     runs = re.findall(r"^\d+\.\d{3} s \S+ task \d+ run \d+: (ok|failed)", session.told, re.MULTILINE)
     yield "a line a run", len(runs) == len(session.trace("finish")) == len(starts)
     yield "so many failed", runs.count("failed") == failed
-    yield "the last line counts", session.told.endswith(f"\nruns {len(runs)}, failed {failed}\n")
+    ending = f", refused {refused}\n" if refused else "\n"
+    yield "the last line counts", session.told.endswith(f"\nruns {len(runs)}, failed {failed}{ending}")
     late = lateness(session, workers_suffice)
     if late > MOST_LATE:
         print(f"warning: {late / 1e6:.0f} ms late, on {'an idle' if session.is_idle else 'a busy'} machine")
