@@ -27,6 +27,7 @@ class Job:
     output: bytes | None
     retries: int
     pause: int
+    ends_on_cancel: bool
 
 
 # ---- the value of a key, which is none where the key is left out; a ValueError where it is none of the key's
@@ -68,6 +69,13 @@ def goes_on_of(value: object) -> bool:
     if value not in (None, "stop", "go_on"):
         raise ValueError
     return value == "go_on"
+
+
+def ends_on_cancel_of(value: object) -> bool:
+    """Whether a run that is under way is ended when its task is cancelled."""
+    if value not in (None, "wait", "end"):
+        raise ValueError
+    return value == "end"
 
 
 def path_of(value: object) -> bytes | None:
@@ -114,6 +122,7 @@ KEYS = {
     "output": Key("output", path_of, "BadOutput", "a text is wanted, the path of a file"),
     "retries": Key("retries", retries_of, "BadRetries", f"a whole number is wanted, 0 to {MOST_RETRIES}"),
     "retry_pause_s": Key("pause", pause_of, "BadRetryPause", "a number of seconds is wanted, 0 or above"),
+    "on_cancel": Key("ends_on_cancel", ends_on_cancel_of, "BadOnCancel", 'on_cancel is "wait" or "end"'),
 }
 
 

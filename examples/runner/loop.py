@@ -18,6 +18,7 @@ from start import Start
 MOST_INPUT_BYTES = 64
 LONGEST_SLEEP_S = 86_400.0
 FIRST_DELAY, LONGEST_DELAY = SECOND // 100, SECOND
+TOGETHER = SECOND // 10
 
 
 @dataclass
@@ -48,11 +49,11 @@ class Runner:
         self.waiting: dict[int, int] = {}
         self.running: dict[int, Run] = {}
         self.runs = self.failed = self.refused = 0
-        self.is_stopping = False
+        self.is_stopping, self.stopped_at = False, 0
         self.rest = b""
         self.origin: int | None = None
         self.selector = selectors.PollSelector()
-        self.watch(signals, self.stop)
+        self.watch(signals, self.obey_signals)
         self.watch(executor.process.stdout, executor.lost)
 
     def watch(self, file: object, call: Callable[[], None]) -> None:
@@ -78,7 +79,7 @@ class Runner:
             self.watch(0, self.read_input)
         while not self.is_over():
             self.sleep(self.seconds_to_sleep())
-            self.end_hung()
+            self.end_due()
             self.try_again()
             self.take_due()
         return True
@@ -99,7 +100,7 @@ class Runner:
     def seconds_to_sleep(self) -> float:
         """How long there is nothing to do, where no job ends, no line is read and no signal comes."""
         moments = [self.next_due(), *(run.tries_at for run in self.running.values())]
-        moments += [run.process.ends_at for run in self.running.values() if run.process is not None]
+        moments += [process.ends_at for process in self.processes()]
         seconds = [(moment - self.now()) / SECOND for moment in moments if moment is not None]
         return min([*seconds, LONGEST_SLEEP_S])
 
@@ -146,6 +147,10 @@ class Runner:
         self.idle.remove(run.worker)
         self.running[run.worker] = run
         self.begin(run)
+
+    def processes(self) -> list[Process]:
+        """Those of the attempts that are under way."""
+        return [run.process for run in self.running.values() if run.process is not None]
 
     def job(self, run: Run) -> Job:
         return self.jobs[self.names[run.task]]
@@ -200,17 +205,21 @@ class Runner:
                 self.begin(run)
 
     def note_cancelled(self, task: int) -> None:
-        """A run of the task that is under way has no further attempt, and ends where none is under way."""
+        """A run of the task that is under way has no further attempt, and ends where none is under way. Where one is, it ends
+        if its job says so."""
         for run in self.running.values():
-            if run.task == task:
-                run.is_cancelled = True
-                run.tries_at = self.now() if run.process is None else run.tries_at
+            if run.task != task:
+                continue
+            run.is_cancelled = True
+            if run.process is None:
+                run.tries_at = self.now()
+            elif self.job(run).ends_on_cancel:
+                run.process.ask_to_end(self.now())
 
-    def end_hung(self) -> None:
-        """Ends jobs that run past their timeout."""
-        for run in self.running.values():
-            if run.process is not None:
-                run.process.end_if_hung(self.now())
+    def end_due(self) -> None:
+        """Ends jobs that run past their timeout, or past the while that they have after SIGTERM."""
+        for process in self.processes():
+            process.end_if_due(self.now())
 
     def reap(self, run: Run) -> None:
         """A job has ended."""
@@ -274,20 +283,32 @@ class Runner:
             case _:
                 tell(f"runner: input: BadLine {line!r}")
 
+    def obey_signals(self) -> None:
+        """At the first signal no work is taken any more, and at one that is not sent along with it what runs is ended."""
+        os.read(self.signals, MOST_INPUT_BYTES)
+        if not self.is_stopping:
+            self.stop()
+        elif self.origin is not None and self.now() - self.stopped_at >= TOGETHER:
+            self.end_running()
+
     def stop(self) -> None:
         """From now on no work is taken, and a run of which no attempt is under way ends."""
         self.is_stopping = True
-        self.selector.unregister(self.signals)
         if self.origin is None:
             tell("stopping: not started")
             return
-        still = [run for run in self.running.values() if run.process is None]
-        self.tell(self.now(), f"stopping: {len(self.running) - len(still)} running")
-        for run in still:
+        self.stopped_at = self.now()
+        self.tell(self.stopped_at, f"stopping: {len(self.processes())} running")
+        for run in [run for run in self.running.values() if run.process is None]:
             self.finish(run)
 
+    def end_running(self) -> None:
+        """Ends what runs, as at a timeout, whatever its job says of a cancel."""
+        self.tell(self.now(), f"ending: {len(self.processes())} running")
+        for process in self.processes():
+            process.ask_to_end(self.now())
+
     def end_all(self) -> None:
-        """Ends all jobs that still run."""
-        for run in self.running.values():
-            if run.process is not None:
-                run.process.kill()
+        """Ends all jobs that still run, at once."""
+        for process in self.processes():
+            process.kill()

@@ -81,7 +81,7 @@ class Process:
     def __init__(self, job: Job, header: bytes, now: int) -> None:
         self.child = started(job, header)
         self.ends_at: int | None = now + job.timeout
-        self.is_hung = False
+        self.is_asked = self.is_hung = False
         self.pidfd: int | None = None
 
     def descriptor(self) -> int:
@@ -102,20 +102,27 @@ class Process:
         with contextlib.suppress(ProcessLookupError, PermissionError):
             os.killpg(self.child.pid, number)
 
-    def end_if_hung(self, now: int) -> None:
-        """Ends the job where it runs past its timeout: by SIGTERM, and a while later by SIGKILL."""
+    def ask_to_end(self, now: int) -> None:
+        """Ends the job, where it still runs: by SIGTERM, and a while later by SIGKILL."""
+        if not self.is_asked and self.is_running():
+            self.signal_all(signal.SIGTERM)
+            self.is_asked, self.ends_at = True, now + GRACE
+
+    def end_if_due(self, now: int) -> None:
+        """Ends the job where it runs past its timeout, or past the while that it has after SIGTERM."""
         if self.ends_at is None or self.ends_at > now:
             return
-        if not self.is_running():
-            self.ends_at = None
-            return
-        self.signal_all(signal.SIGKILL if self.is_hung else signal.SIGTERM)
-        self.ends_at = None if self.is_hung else now + GRACE
-        self.is_hung = True
+        self.ends_at = None
+        if self.is_asked:
+            self.signal_all(signal.SIGKILL)
+        else:
+            self.ask_to_end(now)
+            self.is_hung = self.is_asked
 
     def end(self) -> int:
-        """Takes the end of a process that has ended, and answers its code. If it hung, what it has started ends too."""
-        if self.is_hung:
+        """Takes the end of a process that has ended, and answers its code. If it was asked to end, what it has started ends
+        too."""
+        if self.is_asked:
             self.signal_all(signal.SIGKILL)
         status = self.child.wait()
         if self.pidfd is not None:

@@ -16,6 +16,7 @@ of each task of the plan, and no other. The first two keys have to be there.
     directory = "data"                       # where the command starts; the runner's folder where left out
     environment = { LANG = "C" }             # added to the runner's own
     output = "backup.log"                    # the end of this file gets what the job writes, under a header for each attempt
+    on_cancel = "end"                        # a cancel ends a run that is under way; "wait" where left out
 
 A run whose command ends with status 0 is given as `finish W ok 0`, any other as `finish W fail C`, or `finish W ok C` where
 it goes on. C is
@@ -25,15 +26,18 @@ it goes on. C is
     126, 127   it could not be started, and 127 where its program is not there
 
 Where there are too few descriptors or processes a job waits for them. Standard input takes lines `cancel NAME`: each task
-of that name that waits or runs is cancelled. A run that is under way goes on to the end of its attempt. At SIGTERM or SIGINT
-no work is taken any more, and what runs is waited for.
+of that name that waits or runs is cancelled. A run that is under way goes on to the end of its attempt, or is ended as at a
+timeout where its job says so. At SIGTERM or SIGINT no work is taken any more, and what runs is waited for; at another one all
+that runs is ended.
 
-The trace is written to FILE.part as it grows, and becomes FILE at the end (trace.txt where it is left out). Standard error
-gets a line for each run, and `runs N, failed M` at the end. PROGRAM is crates/sched/out/sched of this repository where it is
-left out, or `sched` on the path where that is not there. Jobs have no standard input, and write where the runner writes.
+The trace is written to FILE.part as it grows, and becomes FILE at the end (trace.txt where it is left out). Another runner with
+the same FILE does not begin. Standard error gets a line for each run and for each task that is refused, and `runs N, failed M`
+at the end, with `, refused K` where some were. PROGRAM is crates/sched/out/sched of this repository where it is left out, or
+`sched` on the path where that is not there. Jobs have no standard input, and write where the runner writes.
 
-The runner ends once the plan has no call to come, no task waits and none runs, or after a signal. Its status is 0 where no
-run failed and else 3, 1 at a fault, which a line on standard error names, and 2 at a fault of the command line.
+The runner ends once the plan has no call to come, no task waits and none runs, or after a signal. Its status is 3 where a run
+failed, else 4 where a task was refused, and else 0; 1 at a fault, which a line on standard error names, and 2 at a fault of the
+command line.
 """
 
 import argparse

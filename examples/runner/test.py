@@ -1,6 +1,6 @@
 #!/usr/bin/env python3
-"""Tries the runner: four plans with real processes, signals, its sleep, a program that dies, the keys of jobs, two
-runners in one folder, starts by the wall clock, and bad input.
+"""Tries the runner: four plans with real processes, signals, its sleep, a program that dies, the keys of jobs, jobs that are
+ended, two runners in one folder, starts by the wall clock, and bad input.
 
     examples/runner/test.py [PROGRAM]
 
@@ -19,6 +19,7 @@ from pathlib import Path
 
 sys.dont_write_bytecode = True
 sys.path.insert(1, str(Path(__file__).resolve().parent / "tests"))
+import endings
 import holds
 import keys
 import refusals
@@ -34,6 +35,7 @@ TESTS: list[Callable[[str], Checks]] = [
     scenes.held_up, scenes.ends, scenes.refuses,
     keys.goes_on, keys.places, keys.paths, keys.places_at_fault, keys.retries, keys.pauses_end, keys.plan_cancels,
     keys.few_descriptors, keys.stops_a_wait, keys.few_processes, keys.ignored_ends,
+    endings.on_cancel, endings.of_the_plan, endings.in_a_pause, endings.after_a_hang, endings.all_by_signals, endings.at_once,
     holds.one_file, holds.six_at_once, holds.left_parts, holds.no_room, holds.other_files,
     starts.meant, starts.badly_written, starts.waits, starts.at_a_moment, starts.held_up_before, starts.is_stopped,
     starts.dies_before,

@@ -25,13 +25,15 @@ BAD_JOBS = [
     ("Missing 'a': a task of the plan has no job", None, ["", "# none\n"]),
     ("WrongType 'a': a table is wanted", 1, ["a = 1\n", "[[a]]\n" + JOBS[4:]]),
     ("UnknownKey 'a' 'timeout': the keys are command, timeout_s, on_failure, directory, environment, output, retries, "
-     "retry_pause_s", 4, [JOBS + "timeout = 1\n"]),
+     "retry_pause_s, on_cancel", 4, [JOBS + "timeout = 1\n"]),
     ("BadCommand 'a': ", 1, ["[a]\ntimeout_s = 1\n"]),
     ("BadCommand 'a': ", 2, [*map(job, ('"true"', "[]", "[1]", '[""]', '["true", "\\u0000"]', "true"))]),
     ("BadTimeout 'a': ", 1, ['[a]\ncommand = ["true"]\n']),
     ("BadTimeout 'a': ", 3, [job(timeout=word) for word in (
         "-1", "0", "0.0", '"1"', "true", "nan", "inf", "-inf", "1e300", "[1]")]),
     ("BadOnFailure 'a': ", 4, [JOBS + f"on_failure = {value}\n" for value in ('""', '"go on"', "true", '["stop"]')]),
+    ("BadOnCancel 'a': on_cancel is \"wait\" or \"end\"", 4, [
+        JOBS + f"on_cancel = {value}\n" for value in ('""', '"kill"', "true", '["end"]')]),
     ("BadDirectory 'a': ", 4, [JOBS + f"directory = {value}\n" for value in ('""', "1", '["."]', '"\\u0000"')]),
     ("BadEnvironment 'a': ", 4, [JOBS + f"environment = {value}\n" for value in (
         '""', "[]", "{ A = 1 }", '{ "" = "x" }', '{ "A=B" = "x" }', '{ A = "\\u0000" }', '{ "\\u0000" = "x" }')]),
