@@ -1,6 +1,6 @@
 #!/usr/bin/env python3
 """Tries the runner: four plans with real processes, signals, its sleep, a program that dies, the keys of jobs, jobs that are
-ended, two runners in one folder, starts by the wall clock, and bad input.
+ended, two runners in one folder, starts by the wall clock, bad input, and what is said of it.
 
     examples/runner/test.py [PROGRAM]
 
@@ -19,6 +19,7 @@ from pathlib import Path
 
 sys.dont_write_bytecode = True
 sys.path.insert(1, str(Path(__file__).resolve().parent / "tests"))
+import documents
 import endings
 import holds
 import keys
@@ -40,6 +41,7 @@ TESTS: list[Callable[[str], Checks]] = [
     starts.meant, starts.badly_written, starts.waits, starts.at_a_moment, starts.held_up_before, starts.is_stopped,
     starts.dies_before,
     refusals.bad_jobs, refusals.places, refusals.bad_words, refusals.refused_plan, refusals.no_second_start, refusals.listings,
+    documents.pages,
 ]
 
 
