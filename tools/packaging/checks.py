@@ -21,6 +21,7 @@ from tools import ToolError, compiler, output
 PROCESSORS = {1: "kvm64,-sse3,-cx16", 2: "Nehalem", 3: "Haswell"}
 EMULATOR = "qemu-x86_64"
 FIRST_EXAMPLE = "one-delay"
+RUNNER_EXAMPLE = "heartbeat"
 # The examples in C, one for each library, and what each writes.
 C_EXAMPLES = {"c/timeout_wheel.c": "c/stdout", "c/heartbeat.c": "heartbeat.txt", "c/echo_timeouts.c": "c/echo_stdout"}
 HEADERS_TEST = """\
@@ -98,8 +99,8 @@ def emulated(installed: Installed, level: int) -> None:
 
 
 def pages(installed: Installed) -> None:
-    """Both pages are there for `man`, which finds nothing wrong with them; nor does mandoc, where it is there."""
-    for section, name in [("1", "sched"), ("5", "sched-plan")]:
+    """All pages are there for `man`, which finds nothing wrong with them; nor does mandoc, where it is there."""
+    for section, name in [("1", "sched"), ("1", "sched-runner"), ("5", "sched-plan")]:
         page = next((installed.share / "man" / f"man{section}").glob(f"{name}.{section}*"))
         text = output(["man", "-l", page], environment=installed.environment)
         if f"{name.upper()}({section})" not in text or "NAME" not in text:
@@ -108,6 +109,20 @@ def pages(installed: Installed) -> None:
         expect(output(["sh", "-c", script, "sh", page], environment=installed.environment), "")
         if shutil.which("mandoc"):
             expect(output(["mandoc", "-Tlint", "-Wwarning", page], environment=installed.environment), "")
+
+
+def runner(installed: Installed, folder: Path) -> None:
+    """The runner runs one of its examples by the program beside it, and leaves nothing but what its jobs write and the trace."""
+    example, command = installed.examples / "runner" / RUNNER_EXAMPLE, installed.program.parent / "sched-runner"
+    path = f"{installed.program.parent}{os.pathsep}{installed.environment['PATH']}"
+    work = folder / "runner"
+    work.mkdir()
+    output([command, example / "plan.toml", example / "jobs.toml", "--workers", "1"],
+           environment=installed.environment | {"PATH": path}, folder=work)
+    expect(" ".join(sorted(file.name for file in work.iterdir())), "beats trace.txt")
+    checked = [installed.program, "check", example / "plan.toml", work / "trace.txt", "--workers", "1"]
+    expect(output(checked, environment=installed.environment), "conforms\n")
+    shutil.rmtree(work)
 
 
 def words_to_complete(program: Program, shell: str) -> Iterator[tuple[str, str]]:

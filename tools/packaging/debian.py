@@ -1,4 +1,5 @@
-"""The Debian packages: `sched`, the program; `libsched0`, the shared library; `libsched-dev`, what C programs are built with.
+"""The Debian packages: `sched`, the program; `sched-runner`, which runs jobs by it; `libsched0`, the shared library; `libsched-dev`,
+what C programs are built with.
 
 The shared library has a package of its own, named by its soname, so that two versions of it may stand side by side.
 """
@@ -26,6 +27,7 @@ ARCHITECTURE = "amd64"
 # What refuses to be set up on a processor below level 2. There is none for the levels above.
 LEVEL_2 = "sse4.2-support"
 APACHE_2 = "/usr/share/common-licenses/Apache-2.0"
+PYTHON = "python3:any (>= 3.11)"
 
 
 @dataclass(frozen=True)
@@ -40,6 +42,7 @@ class Package:
     about: list[str]
     crates: list[str]
     control: Tree
+    architecture: str = ARCHITECTURE
 
 
 def version(parts: Parts) -> str:
@@ -66,7 +69,7 @@ def told(licence: str) -> str:
 
 def copyright_text(crates: list[str]) -> str:
     """The licences of a package."""
-    text = licences.notices(crates, told)
+    text = licences.notices(crates, told) if crates else licences.OWN_ALONE
     return f"""Sources: the repository of sched. It names no holder of the copyright. Its commits are by {maintainer()}.
 
 {text}"""
@@ -99,7 +102,7 @@ def fields(parts: Parts, package: Package, size: int) -> str:
     about = "\n .\n".join(textwrap.fill(paragraph, 78, initial_indent=" ", subsequent_indent=" ") for paragraph in package.about)
     return f"""Package: {package.name}
 Version: {version(parts)}
-Architecture: {ARCHITECTURE}
+Architecture: {package.architecture}
 Maintainer: {maintainer()}
 Installed-Size: {size}
 Depends: {", ".join(package.depends)}
@@ -112,7 +115,7 @@ Description: {package.summary}
 
 
 def packages(parts: Parts) -> list[Package]:
-    """The three packages."""
+    """The four packages."""
     program = f"{PLACES.documents}/sched"
     development = f"{PLACES.documents}/libsched-dev"
     shared = f"libsched{parts.soname.rpartition('.')[2]}"
@@ -129,6 +132,10 @@ def packages(parts: Parts) -> list[Package]:
             "It runs plans of scheduled tasks over lines of events, as Java's ScheduledThreadPoolExecutor and DelayQueue do, and "
             "writes what happens. Every moment is handed in, so the same plan and events give the same bytes.",
             f"Measured of the program: {parts.program_machine}."], ["sched"], {}),
+        Package("sched-runner", "utils", with_short_pages(made.runner_tree(parts, PLACES, made.SYSTEM_PYTHON)),
+                [f"sched (= {version(parts)})", PYTHON], "runs commands by a plan of sched", [
+            "It runs commands as a plan of scheduled tasks says and as the clock goes, with timeouts, further attempts, and starts by "
+            "the wall clock, and writes a trace, which sched checks."], [], {}, "all"),
         Package(shared, "libs", made.shared_tree(parts, PLACES), runs_on(parts.library_machine), "timers and executors, proved", [
             "This is the shared library: an executor whose tasks are submitted and cancelled while it runs, an executor of plans, "
             "and a delay queue.",
@@ -160,4 +167,4 @@ def built(parts: Parts, package: Package) -> bytes:
 
 def package(parts: Parts) -> dict[str, bytes]:
     """The packages, by their names."""
-    return {f"{it.name}_{version(parts)}_{ARCHITECTURE}.deb": built(parts, it) for it in packages(parts)}
+    return {f"{it.name}_{version(parts)}_{it.architecture}.deb": built(parts, it) for it in packages(parts)}

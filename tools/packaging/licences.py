@@ -16,6 +16,10 @@ its library and the archive liblibc_c.a are built in. So nothing here says that 
 those to say who hold the rights.
 """
 
+OWN_ALONE = """The repository of sched names no licence for its own files. So nothing here says that this may be passed on, changed or
+sold: that is for those to say who hold the rights.
+"""
+
 
 def uses() -> dict[str, list[str]]:
     """What each crate of the repository stands on."""

@@ -1,16 +1,19 @@
-"""The pages of `man`: sched(1) from the program's help, and sched-plan(5) from the part of it on plans, and from the rules."""
+"""The pages of `man`: sched(1) from the program's help, sched-plan(5) from the part of it on plans, and from the rules, and
+sched-runner(1) as it stands beside the runner."""
 
 from __future__ import annotations
 
 import re
 from collections.abc import Iterator
 from dataclasses import dataclass
+from pathlib import Path
 
 import roff
 import rules
 from blocks import Block, Paragraph, parts
 from help_text import Command, HelpError, Option, Program
 
+RUNNER_PAGE = Path(__file__).resolve().parents[2] / "examples" / "runner" / "sched-runner.1"
 STATUSES = "Exit status:"
 PLAN_BEGINS = "The plan is a file of TOML"
 EXAMPLE_BEGINS = "Example, with the plan"
@@ -138,3 +141,12 @@ def plan_page(program: Program, issue: Issue) -> str:
         ("EXAMPLE", list(roff.rendered(example))),
         ("SEE ALSO", [".BR sched (1)"]),
     ])
+
+
+def runner_page(issue: Issue) -> str:
+    """sched-runner(1), with the day and the version in its head."""
+    text = RUNNER_PAGE.read_text()
+    head = '"" "sched"'
+    if head not in text.partition("\n")[0]:
+        raise HelpError(f"{RUNNER_PAGE.name} does not begin with a head that has: {head}")
+    return text.replace(head, f'{issue.date} "sched {issue.version}"', 1)

@@ -1,4 +1,4 @@
-"""The files that describe the program to `man` and to shells."""
+"""The files that describe the program and the runner to `man` and to shells."""
 
 from __future__ import annotations
 
@@ -24,6 +24,7 @@ def files(program: Path, version: str) -> dict[str, str]:
     issue = man_pages.Issue(version, day())
     return {
         "man/man1/sched.1": man_pages.program_page(read, issue),
+        "man/man1/sched-runner.1": man_pages.runner_page(issue),
         "man/man5/sched-plan.5": man_pages.plan_page(read, issue),
         "completions/sched.bash": completions.bash(read),
         "completions/_sched": completions.zsh(read),

@@ -1,4 +1,5 @@
-"""What the packages are made of: the program, the libraries, their pages, and the examples; and where each of it is put."""
+"""What the packages are made of: the program, the libraries, the runner, their pages, and the examples; and where each of it is
+put."""
 
 from __future__ import annotations
 
@@ -19,6 +20,8 @@ from tools import ToolError, output
 from tree import File, Link, Tree, copied
 
 PROGRAM = TOP / "crates" / "sched" / "out" / "sched"
+RUNNER = TOP / "examples" / "runner"
+ANY_PYTHON, SYSTEM_PYTHON = b"#!/usr/bin/env python3\n", b"#!/usr/bin/python3\n"
 HEADERS = ("delay_queue.h", "sched.h", "sched_version.h", "timers.h")
 LIBRARY_CRATES = list(library.LIBRARIES)
 
@@ -142,6 +145,19 @@ def program_tree(parts: Parts, places: Places) -> Tree:
         places / "share/bash-completion/completions/sched": File(parts.pages["completions/sched.bash"]),
         places / f"share/zsh/{places.zsh}/_sched": File(parts.pages["completions/_sched"]),
         places / "share/fish/vendor_completions.d/sched.fish": File(parts.pages["completions/sched.fish"]),
+    }
+
+
+def runner_tree(parts: Parts, places: Places, python: bytes = ANY_PYTHON) -> Tree:
+    """The runner of jobs: a command, which names its first module, and its page."""
+    folder = places / "share/sched-runner"
+    names = output(["git", "-C", RUNNER, "ls-files", ":(glob)*.py", ":!test.py"]).split()
+    tree: Tree = {f"{folder}/{name}": copied(RUNNER / name) for name in names}
+    first = copied(RUNNER / "runner.py")
+    return tree | {
+        f"{folder}/runner.py": File(python + first.content.removeprefix(ANY_PYTHON), first.is_program),
+        places / "bin/sched-runner": Link("../share/sched-runner/runner.py"),
+        places / "share/man/man1/sched-runner.1": File(parts.pages["man/man1/sched-runner.1"]),
     }
 
 

@@ -1,4 +1,4 @@
-"""The archive that is unpacked below any folder, such as /usr/local: the program, the libraries, pages and examples."""
+"""The archive that is unpacked below any folder, such as /usr/local: the program, the libraries, the runner, pages and examples."""
 
 from __future__ import annotations
 
@@ -20,8 +20,8 @@ def tree(parts: Parts) -> Tree:
     """All files, with a list of their checksums."""
     # So that the folder may stand anywhere, its place is told as seen from sched.pc.
     prefix = "${pcfiledir}/../.."
-    content = (made.program_tree(parts, PLACES) | made.shared_tree(parts, PLACES) | made.development_tree(parts, PLACES, prefix)
-               | made.document_tree(parts, DOCUMENTS) | made.example_tree(DOCUMENTS))
+    content = (made.program_tree(parts, PLACES) | made.runner_tree(parts, PLACES) | made.shared_tree(parts, PLACES)
+               | made.development_tree(parts, PLACES, prefix) | made.document_tree(parts, DOCUMENTS) | made.example_tree(DOCUMENTS))
     content[f"{DOCUMENTS}/NOTICES"] = made.notices(["sched", *LIBRARY_CRATES])
     return content | {SUMS: File(checksums(files(content), "sha256"))}
 

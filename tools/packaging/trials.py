@@ -81,14 +81,16 @@ def outside(home: Path, *more: Path) -> dict[str, str]:
     return {"PATH": path, "HOME": str(home), "LANG": "C.UTF-8"}
 
 
-def try_program(trials: Trials, name: str, installed: Installed) -> None:
-    """The program, its pages and its completions."""
+def try_program(trials: Trials, name: str, installed: Installed, folder: Path) -> None:
+    """The program, its pages and its completions, and the runner of jobs."""
     with trials.step(f"{name}: the program's first command"):
         checks.first_command(installed)
     with trials.step(f"{name}: the version that the program tells"):
         expect(installed.run(installed.program, "--version"), f"sched {installed.version} ({versions.toolchain()})\n")
     with trials.step(f"{name}: pages"):
         checks.pages(installed)
+    with trials.step(f"{name}: the runner of jobs"):
+        checks.runner(installed, folder)
     for shell in filter(None, map(shells.found, shells.STARTS)):
         with trials.step(f"{name}: completions of {shell.name}"):
             checks.completions(installed, shell)
@@ -112,7 +114,7 @@ def try_tarball(trials: Trials, parts: Parts, packages: dict[str, bytes], folder
         output(["sha256sum", "--check", "--strict", root / tarball.SUMS], environment=environment, folder=root)
     examples = root / tarball.DOCUMENTS / "examples"
     installed = Installed(parts.version, root / "bin" / "sched", root / "share", examples, environment)
-    try_program(trials, "archive", installed)
+    try_program(trials, "archive", installed, folder)
     if checks.has_emulator():
         with trials.step(f"archive: the program on a processor of level {parts.program_machine.level}"):
             checks.emulated(installed, parts.program_machine.level)
@@ -147,7 +149,7 @@ def try_debian(trials: Trials, parts: Parts, packages: dict[str, bytes], folder:
     documents = root / debian.PLACES.documents
     installed = Installed(parts.version, root / "usr" / "bin" / "sched", root / "usr" / "share", documents / "sched" / "examples",
                           environment, [f"--define-variable=prefix={root}/usr"], root, "/usr")
-    try_program(trials, "Debian", installed)
+    try_program(trials, "Debian", installed, folder)
     work = root / "work"
     work.mkdir()
     try_libraries(trials, "Debian", replace(installed, examples=documents / "libsched-dev" / "examples"), work)

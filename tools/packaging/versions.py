@@ -18,6 +18,7 @@ PLACES = [
     ("crates/command_line/src/version.rt", r'(?<=pub const VERSION: &str = ")[^" ]*(?= )', "{0}.{1}.{2}"),
     ("docs/EMBEDDING.md", r"(?<=dist/sched-)\d+\.\d+\.\d+(?=-linux)", "{0}.{1}.{2}"),
     ("docs/EMBEDDING.md", r"(?<=dist/sched_)\d+\.\d+\.\d+(?=-1_amd64)", "{0}.{1}.{2}"),
+    ("docs/EMBEDDING.md", r"(?<=dist/sched-runner_)\d+\.\d+\.\d+(?=-1_all)", "{0}.{1}.{2}"),
     ("docs/EMBEDDING.md", r"(?<=dist/libsched0_)\d+\.\d+\.\d+(?=-1_amd64)", "{0}.{1}.{2}"),
     ("docs/EMBEDDING.md", r"(?<=dist/libsched-dev_)\d+\.\d+\.\d+(?=-1_amd64)", "{0}.{1}.{2}"),
     ("docs/EMBEDDING.md", r"(?<=dist/sched_timers-)\d+\.\d+\.\d+(?=-py3)", "{0}.{1}.{2}"),
