@@ -19,7 +19,9 @@ def unwritten(path: str, why: str) -> Fault:
 
 
 def look_at(path: str) -> None:
-    """What is no regular file can't be replaced by one."""
+    """What is no regular file can't be replaced by one, and a part or a lock may be another runner's."""
+    if path.endswith((PART, LOCK)):
+        raise unwritten(path, f"a name that ends with {PART} or {LOCK} is none of a whole trace")
     if not os.path.basename(path) or os.path.isdir(path):
         raise unwritten(path, os.strerror(errno.EISDIR))
     if os.path.exists(path) and not os.path.isfile(path):

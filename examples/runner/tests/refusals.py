@@ -90,6 +90,10 @@ BAD_WORDS = {
         ["--workers", "1", "--trace", "no/trace"], 1, "trace: 'no/trace.lock' not written: No such file or directory\n"),
     "a folder as the trace": (["--workers", "1", "--trace", "."], 1, "runner: trace: '.' not written: Is a directory\n"),
     "a trace without a name": (["--workers", "1", "--trace", "no/"], 1, "runner: trace: 'no/' not written: Is a directory\n"),
+    "a part as the trace": (
+        ["--workers", "1", "--trace", "t.part"], 1,
+        "runner: trace: 't.part' not written: a name that ends with .part or .lock is none of a whole trace\n"),
+    "a lock as the trace": (["--workers", "1", "--trace", "t.lock"], 1, "runner: trace: 't.lock' not written: a name that ends "),
     "a pipe as the trace": (
         ["--workers", "1", "--trace", "control"], 1, "runner: trace: 'control' not written: it is no regular file\n"),
     "the jobs as the trace": (["--workers", "1", "--trace", "./jobs.toml"], 1, "'./jobs.toml' is the plan or the jobs\n"),
