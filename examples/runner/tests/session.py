@@ -13,7 +13,7 @@ from datetime import datetime, timedelta
 from pathlib import Path
 
 HERE = Path(__file__).resolve().parents[1]
-SECONDS = 20
+SECONDS = 60
 MOST_LATE = 50_000_000
 IDLE_SHARE = 0.75
 Checks = Iterator[tuple[str, bool]]
