@@ -111,6 +111,16 @@ def pages(installed: Installed) -> None:
             expect(output(["mandoc", "-Tlint", "-Wwarning", page], environment=installed.environment), "")
 
 
+def has_python(installed: Installed) -> bool:
+    """Whether the system has a Python for the runner; tells where it has not."""
+    try:
+        output(["python3", "-c", "import tomllib"], environment=installed.environment)
+    except (ToolError, OSError):
+        print("Python 3.11 is not there: the runner is not tried", flush=True)
+        return False
+    return True
+
+
 def runner(installed: Installed, folder: Path) -> None:
     """The runner runs one of its examples by the program beside it, and leaves nothing but what its jobs write and the trace."""
     example, command = installed.examples / "runner" / RUNNER_EXAMPLE, installed.program.parent / "sched-runner"

@@ -89,8 +89,9 @@ def try_program(trials: Trials, name: str, installed: Installed, folder: Path) -
         expect(installed.run(installed.program, "--version"), f"sched {installed.version} ({versions.toolchain()})\n")
     with trials.step(f"{name}: pages"):
         checks.pages(installed)
-    with trials.step(f"{name}: the runner of jobs"):
-        checks.runner(installed, folder)
+    if checks.has_python(installed):
+        with trials.step(f"{name}: the runner of jobs"):
+            checks.runner(installed, folder)
     for shell in filter(None, map(shells.found, shells.STARTS)):
         with trials.step(f"{name}: completions of {shell.name}"):
             checks.completions(installed, shell)
