@@ -1,0 +1,67 @@
+package sched.timers;
+
+import java.io.IOException;
+import java.io.InputStream;
+import java.nio.file.Files;
+import java.nio.file.Path;
+import java.nio.file.StandardCopyOption;
+
+/**
+ * The library that the timers stand in, which is loaded once for each class loader.
+ *
+ * <p>It is a file within the jar. It is copied to a new file in the folder for temporary files, loaded, and the copy deleted: the system
+ * keeps what is loaded. Where the property {@value #PROPERTY} names a file, that one is loaded, and nothing is copied.
+ */
+final class NativeLibrary {
+    static final String PROPERTY = "sched.timers.library";
+    private static final String PLACE = "native/linux-x86_64/libtimers_jni.so";
+    private static final String MISSING = load();
+
+    private NativeLibrary() {}
+
+    /** What is missing, as a sentence; null where the library is there. */
+    static String missing() {
+        return MISSING;
+    }
+
+    /**
+     * Throws what is missing.
+     *
+     * @throws UnsupportedOperationException where the library cannot be used here
+     */
+    static void require() {
+        if (MISSING != null) throw new UnsupportedOperationException(MISSING);
+    }
+
+    private static String load() {
+        try {
+            String named = System.getProperty(PROPERTY);
+            String missing = named == null ? loadFromJar() : loadFrom(Path.of(named));
+            if (missing != null) return missing;
+            return Timers.fits() ? null : "the timers need a processor of level 2 of x86-64 (SSE 4.2, SSSE 3, POPCNT)";
+        } catch (IOException | RuntimeException | LinkageError failure) {
+            return "the library of the timers cannot be loaded: " + failure;
+        }
+    }
+
+    private static String loadFrom(Path file) {
+        System.load(file.toAbsolutePath().toString());
+        return null;
+    }
+
+    private static String loadFromJar() throws IOException {
+        String system = System.getProperty("os.name"), machine = System.getProperty("os.arch");
+        if (!system.equals("Linux") || !(machine.equals("amd64") || machine.equals("x86_64")))
+            return "the timers need Linux on x86-64, and this is " + system + " on " + machine;
+        try (InputStream library = NativeLibrary.class.getResourceAsStream(PLACE)) {
+            if (library == null) return "the jar has no " + PLACE;
+            Path copy = Files.createTempFile("libtimers_jni", ".so");
+            try {
+                Files.copy(library, copy, StandardCopyOption.REPLACE_EXISTING);
+                return loadFrom(copy);
+            } finally {
+                Files.deleteIfExists(copy);
+            }
+        }
+    }
+}
