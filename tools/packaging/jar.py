@@ -60,7 +60,7 @@ def shared(over: list[Any], file: Path, *more: str) -> None:
     output([compiler(), *words, "-shared", NATIVE / "timers_jni.c", *over, *link, "-o", file])
 
 
-def compiled(folder: Path, classes: str = "", *sources: Path) -> None:
+def compiled(folder: Path, classes: Path | None = None, *sources: Path) -> None:
     """Compiles the classes, or other sources over those of a class path, into a folder."""
     found = sources or sorted(CLASSES.rglob("*.java"))
     front = ["--class-path", classes] if classes else []

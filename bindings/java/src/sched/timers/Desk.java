@@ -393,6 +393,7 @@ final class Desk {
                 added = missingWorker();
             } else {
                 swept = timers.outcome() == Timers.ENDED;
+                task.dueAt((task.kind() == Timers.RATE ? task.time() : base + timers.now()) + task.span());
                 table.take(task.place);
                 task.goes();
             }

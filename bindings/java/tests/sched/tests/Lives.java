@@ -1,0 +1,162 @@
+package sched.tests;
+
+import static java.util.concurrent.TimeUnit.HOURS;
+import static java.util.concurrent.TimeUnit.MICROSECONDS;
+import static java.util.concurrent.TimeUnit.SECONDS;
+
+import java.io.File;
+import java.io.IOException;
+import java.lang.ref.WeakReference;
+import java.net.URL;
+import java.net.URLClassLoader;
+import java.nio.file.Files;
+import java.nio.file.Path;
+import java.util.ArrayList;
+import java.util.List;
+import java.util.concurrent.Executors;
+import java.util.concurrent.ScheduledThreadPoolExecutor;
+import java.util.concurrent.TimeUnit;
+import sched.timers.TimersThreadPoolExecutor;
+
+/** The ends of what is around a pool: of its class loader, and of the JVM, which runs this program's words `exit`. */
+final class Lives {
+    private Lives() {}
+
+    static void run() {
+        Runner.holds("class loaders that go take the library along", Lives::loaders);
+        for (String how : List.of("daemons", "exit", "within", "halt", "uncaught"))
+            Runner.same("the JVM ends, " + how, 0, () -> ended("-ea", "-Xcheck:jni", "-cp", System.getProperty("java.class.path"), "sched.tests.Main", "exit", how));
+        Runner.same("want of heap, and then enough", 0, () -> ended("-ea", "-Xms64m", "-Xmx64m", "-XX:+UseSerialGC", "-cp", System.getProperty("java.class.path"), "sched.tests.Main", "exit", "heap"));
+        Runner.holds("a library that is not there", Lives::missing);
+    }
+
+    /** The status of a JVM with some words; what it writes is told where that is not 0. */
+    private static int ended(String... words) throws Exception {
+        List<String> command = new ArrayList<>(List.of(Path.of(System.getProperty("java.home"), "bin", "java").toString()));
+        command.addAll(List.of(words));
+        File text = File.createTempFile("exit", ".txt");
+        try {
+            Process process = new ProcessBuilder(command).redirectErrorStream(true).redirectOutput(text).start();
+            if (!process.waitFor(120, SECONDS)) {
+                process.destroyForcibly();
+                return -1;
+            }
+            if (process.exitValue() != 0) Runner.say(Files.readString(text.toPath()));
+            return process.exitValue();
+        } finally {
+            Files.delete(text.toPath());
+        }
+    }
+
+    private static int mapped() throws IOException {
+        int found = 0;
+        for (String line : Files.readAllLines(Path.of("/proc/self/maps"))) if (line.contains("libtimers_jni") && line.contains("r-xp")) found++;
+        return found;
+    }
+
+    private static boolean loaders() throws Exception {
+        int before = mapped();
+        List<WeakReference<ClassLoader>> gone = new ArrayList<>();
+        for (int i = 0; i < 3; i++) gone.add(new WeakReference<>(loadedAndDropped()));
+        Scenes.eventually(() -> {
+            System.gc();
+            return gone.stream().allMatch(reference -> reference.get() == null) && mapped() == before;
+        });
+        return mapped() == before;
+    }
+
+    /** A class loader of its own, by which a pool lived: one that is shut down, and one that is forgotten. */
+    private static ClassLoader loadedAndDropped() throws Exception {
+        URL jar = TimersThreadPoolExecutor.class.getProtectionDomain().getCodeSource().getLocation();
+        URLClassLoader loader = new URLClassLoader(new URL[] {jar}, ClassLoader.getPlatformClassLoader());
+        Class<?> pools = loader.loadClass(TimersThreadPoolExecutor.class.getName());
+        if (pools == TimersThreadPoolExecutor.class) throw new AssertionError("one class loader");
+        ScheduledThreadPoolExecutor pool = (ScheduledThreadPoolExecutor) pools.getConstructor(int.class).newInstance(2);
+        for (int i = 0; i < 100; i++) pool.schedule(() -> 1, i, MICROSECONDS);
+        pool.shutdown();
+        if (!pool.awaitTermination(30, SECONDS)) throw new AssertionError("the pool does not end");
+        ((ScheduledThreadPoolExecutor) pools.getConstructor(int.class).newInstance(0)).getQueue();
+        loader.close();
+        return loader;
+    }
+
+    /** A file that is no library, named by the property: the constructor says what is missing, in a JVM of its own. */
+    private static boolean missing() throws Exception {
+        return ended("-Dsched.timers.library=/dev/null", "-cp", System.getProperty("java.class.path"), "sched.tests.Main", "exit", "missing") == 0;
+    }
+
+    // ---- the other JVM
+
+    static void exit(String how) throws Exception {
+        switch (how) {
+            case "daemons": busy(true); break; // main ends, and daemons go on to the end
+            case "exit": busy(false); System.exit(0); break;
+            case "within": busy(true).schedule(() -> System.exit(0), 20, TimeUnit.MILLISECONDS); Thread.sleep(30_000); throw new AssertionError("it goes on");
+            case "halt": busy(false); Runtime.getRuntime().halt(0); break;
+            case "uncaught": uncaught(); break;
+            case "heap": wantOfHeap(); break;
+            case "missing": missingHere(); break;
+            default: throw new IllegalArgumentException(how);
+        }
+    }
+
+    private static ScheduledThreadPoolExecutor busy(boolean daemons) throws InterruptedException {
+        ScheduledThreadPoolExecutor pool = new TimersThreadPoolExecutor(4, job -> {
+            Thread thread = Executors.defaultThreadFactory().newThread(job);
+            thread.setDaemon(daemons);
+            return thread;
+        });
+        for (int i = 0; i < 100; i++) pool.scheduleAtFixedRate(() -> pool.schedule(Scenes.NOTHING, 1, HOURS).cancel(false), i, 20, MICROSECONDS);
+        Thread.sleep(100);
+        return pool;
+    }
+
+    /** The last thread of a pool goes by an exception that nobody catches, and takes the JVM with it. */
+    private static void uncaught() {
+        new Hooks() {
+            @Override
+            void terminated() {
+                throw new IllegalStateException("terminated");
+            }
+        }.pool(true, 1).schedule(Scenes.NOTHING, 1, TimeUnit.MILLISECONDS);
+        System.exit(0);
+    }
+
+    private static void missingHere() {
+        try {
+            new TimersThreadPoolExecutor(1);
+            System.exit(1);
+        } catch (UnsupportedOperationException refused) {
+            boolean says = refused.getMessage().startsWith("the library of the timers cannot be loaded: ") && refused.getMessage().equals(TimersThreadPoolExecutor.missing());
+            System.exit(says ? 0 : 1);
+        }
+    }
+
+    /** A heap that is too small for what is submitted: some submissions throw, and the pool does all else as before. */
+    private static void wantOfHeap() throws Exception {
+        TimersThreadPoolExecutor pool = new TimersThreadPoolExecutor(1);
+        pool.prestartAllCoreThreads();
+        pool.setRemoveOnCancelPolicy(true);
+        for (int turn = 0; turn < 3; turn++) {
+            if (!fills(pool)) System.exit(2);
+            List<Runnable> left = new ArrayList<>(pool.getQueue());
+            for (Runnable task : left) ((java.util.concurrent.Future<?>) task).cancel(false);
+            if (pool.getQueue().size() != 0) System.exit(3);
+        }
+        if (pool.submit(() -> 5).get(30, SECONDS) != 5) System.exit(4);
+        pool.shutdown();
+        System.exit(pool.awaitTermination(30, SECONDS) ? 0 : 5);
+    }
+
+    private static boolean fills(TimersThreadPoolExecutor pool) {
+        Object[] ballast = new Object[100];
+        long accepted = 0;
+        try {
+            for (int i = 0; i < ballast.length; i++) ballast[i] = new byte[1 << 18];
+            for (; ; accepted++) pool.schedule(Scenes.NOTHING, 1, HOURS);
+        } catch (OutOfMemoryError full) {
+            ballast = null;
+        }
+        return pool.getQueue().size() == accepted;
+    }
+}
