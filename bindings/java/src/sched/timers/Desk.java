@@ -87,7 +87,7 @@ final class Desk {
     /** Whether a task may still run, as the pool is shut and the policies are: what is asked just before it runs. */
     boolean mayRun(ScheduledTask<?> task) {
         if (!shut) return true;
-        if (stopped) return false;
+        if (stopped || over) return false;
         return task.isPeriodic() ? continues : executes || task.getDelay(TimeUnit.NANOSECONDS) <= 0;
     }
 

@@ -131,15 +131,16 @@ final class RandomPrograms {
 
     /** What a job does: nothing else, fail, cancel, submit, set a policy, or shut its pool down. */
     private Runnable job() {
-        int what = random.nextInt(20), which = tasks.isEmpty() ? 0 : random.nextInt(tasks.size());
+        int what = random.nextInt(20), which = random.nextInt(8);
+        ScheduledFuture<?> other = tasks.isEmpty() ? null : any();
         return () -> {
             runs.incrementAndGet();
             if (what == 0) throw new IllegalStateException("a job");
             if (what == 1) throw new LinkageError("a job");
-            if (what == 2 && which < tasks.size()) tasks.get(which).cancel(false);
+            if (what == 2 && other != null) other.cancel(false);
             if (what == 3) submitWithin();
             if (what == 4) pool.setRemoveOnCancelPolicy(true);
-            if (what == 5 && which % 4 == 0) pool.shutdown();
+            if (what == 5 && which == 0) pool.shutdown();
         };
     }
 
