@@ -107,7 +107,10 @@ def pages(folder: Path) -> Tree:
 
 
 def package(parts: Parts) -> dict[str, bytes]:
-    """The three jars, by their names."""
+    """The three jars, by their names; none where there is no JDK, which is told."""
+    if jdk() is None:
+        print(f"a JDK {JAVA} is not there: the jars are left out", flush=True)
+        return {}
     front = f"{NAME}-{parts.version}"
     with tempfile.TemporaryDirectory() as name:
         folder = Path(name)

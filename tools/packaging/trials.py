@@ -16,6 +16,7 @@ from pathlib import Path
 import checks
 import crate
 import debian
+import jar
 import shells
 import tarball
 import versions
@@ -47,6 +48,22 @@ fn main() -> Result<(), sched::QueueError> {
 }
 """
 RUST_USER_WRITES = "task 0 was due at 5000\n"
+# A program in Java that takes the class for Java's own, and what it writes.
+JAVA_USER = """\
+import java.util.concurrent.ScheduledThreadPoolExecutor;
+import java.util.concurrent.TimeUnit;
+import sched.timers.TimersThreadPoolExecutor;
+
+public class User {
+    public static void main(String[] words) throws Exception {
+        ScheduledThreadPoolExecutor pool = new TimersThreadPoolExecutor(2);
+        int value = pool.schedule(() -> 6 * 7, 1, TimeUnit.MILLISECONDS).get();
+        pool.shutdown();
+        System.out.println(value + " " + pool.awaitTermination(30, TimeUnit.SECONDS));
+    }
+}
+"""
+JAVA_USER_WRITES = "42 true\n"
 SYSTEM_FOLDERS = ("/usr/bin", "/bin", "/usr/sbin", "/sbin")
 LOADER = "/lib64/ld-linux-x86-64.so.2"
 
@@ -211,6 +228,33 @@ def try_wheel(trials: Trials, parts: Parts, packages: dict[str, bytes], folder: 
             raise ToolError(f"other bytes: {[name for name in again if again[name] != packages.get(name)]}")
         if vars(anew).keys() & {"program", "program_machine", "pages"}:
             raise ToolError("the program was built for a wheel")
+
+
+def try_jar(trials: Trials, parts: Parts, packages: dict[str, bytes], folder: Path) -> None:
+    """The jars: a program over the class, as a path and as a module; sources and pages; and the same bytes once more."""
+    names = sorted(name for name in packages if name.endswith(".jar"))
+    if not names:
+        print("there are no jars: their steps are left out", flush=True)
+        return
+    programs = jar.needed_jdk() / "bin"
+    environment = outside(folder)
+    for name in names:
+        (folder / name).write_bytes(packages[name])
+    main, pages, sources = (folder / f"{jar.NAME}-{parts.version}{part}.jar" for part in ("", "-javadoc", "-sources"))
+    (folder / "User.java").write_text(JAVA_USER)
+    with trials.step("jar: a program over it"):
+        output([programs / "javac", "-cp", main, "-d", folder, folder / "User.java"], environment=environment)
+        expect(output([programs / "java", "-cp", f"{main}{os.pathsep}{folder}", "User"], environment=environment), JAVA_USER_WRITES)
+    with trials.step("jar: a module"):
+        command = [programs / "java", "--module-path", main, "--add-modules", jar.MODULE, "-cp", folder, "User"]
+        expect(output(command, environment=environment), JAVA_USER_WRITES)
+    with trials.step("jar: sources and pages"):
+        for file, wanted in [(sources, "sched/timers/Timers.java"), (pages, "sched/timers/TimersThreadPoolExecutor.html"), (main, jar.LIBRARY)]:
+            if wanted not in output([programs / "jar", "--list", "--file", file], environment=environment).split():
+                raise ToolError(f"{file.name} has no {wanted}")
+    with trials.step("jar: the same bytes once more"):
+        again = jar.package(parts)
+        expect("\n".join(name for name in names if again[name] != packages[name]), "")
 
 
 def crate_user(folder: Path, dependency: Path) -> Path:

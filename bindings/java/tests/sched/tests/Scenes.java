@@ -610,7 +610,9 @@ final class Scenes {
             pool.setThreadFactory(job -> { throw new IllegalStateException("no thread"); });
             String said = thrownBy(() -> pool.submit(() -> 6)) + pool.getPoolSize() + pool.getQueue().size();
             pool.setThreadFactory(good);
-            return said + pool.submit(() -> 6).get() + pool.getCompletedTaskCount();
+            int value = pool.submit(() -> 6).get();
+            eventually(() -> pool.getCompletedTaskCount() == 2);
+            return said + value;
         });
         scene("a factory whose thread is started", 1, pool -> {
             pool.setThreadFactory(job -> {

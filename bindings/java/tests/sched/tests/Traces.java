@@ -55,20 +55,21 @@ final class Traces {
     }
 
     /** Numbers of moments are left out. */
-    private static final String SMALL = "policy remove true|submit 0 schedule due|outside 0 yes|submit 1 rate due|shutdown|end 1|refuse 2 rejected|shutdown again|ask queue 0 running 0 shutdown yes terminated yes";
+    private static final String SMALL = "policy remove true|submit 0 schedule due|outside 0 yes|submit 1 rate due|submit 2 schedule due|shutdown|end 1|refuse 3 rejected|shutdown again|shutdown now|end 2|ask queue 0 running 0 shutdown yes terminated yes";
 
     private static String small() throws Exception {
         List<String> lines = new ArrayList<>(), plan = new ArrayList<>();
-        TimersThreadPoolExecutor pool = new TimersThreadPoolExecutor(1, new ThreadPoolExecutor.DiscardPolicy());
+        TimersThreadPoolExecutor pool = new TimersThreadPoolExecutor(1, job -> null, new ThreadPoolExecutor.DiscardPolicy());
         pool.recordTo(lines::add, plan::add);
         pool.schedule(Scenes.NOTHING, 1, HOURS).cancel(false);
-        ScheduledFuture<?> kept = pool.scheduleAtFixedRate(Scenes.NOTHING, 1, 1, HOURS);
-        pool.setThreadFactory(job -> null);
+        ScheduledFuture<?> rate = pool.scheduleAtFixedRate(Scenes.NOTHING, 1, 1, HOURS);
+        pool.schedule(Scenes.NOTHING, 1, HOURS);
         pool.shutdown();
         pool.schedule(Scenes.NOTHING, 1, HOURS);
         pool.shutdown();
-        if (!kept.isCancelled() || !pool.awaitTermination(30, SECONDS)) return "it does not end";
-        if (plan.stream().filter(line -> line.startsWith("op = ")).count() != 7) return String.join("\n", plan);
+        pool.shutdownNow();
+        if (!rate.isCancelled() || !pool.awaitTermination(30, SECONDS)) return "it does not end";
+        if (plan.stream().filter(line -> line.startsWith("op = ")).count() != 9) return String.join("\n", plan);
         StringBuilder said = new StringBuilder();
         for (String line : lines) said.append('|').append(line.replaceFirst("^\\d+ ", "").replaceFirst(" due \\d+$", " due"));
         return said.substring(1);
