@@ -555,7 +555,7 @@ final class Desk {
         lock();
         try {
             if (!over) {
-                swept = sweep(which, value);
+                swept = swept(which, value);
                 if (shut && !value) kept.clear();
                 last = endsAfterSweep();
             }
@@ -576,21 +576,26 @@ final class Desk {
         }
     }
 
-    /** Calls the timers for a policy or a shutdown, and takes what it ended out of the table. */
-    private List<ScheduledTask<?>> sweep(int which, boolean value) {
-        List<ScheduledTask<?>> swept = new ArrayList<>(shut || which >= Timers.SHUTDOWN ? table.size() : 0);
+    /** What the timers end by a policy or a shutdown. */
+    private List<ScheduledTask<?>> swept(int which, boolean value) {
+        List<ScheduledTask<?>> swept = new ArrayList<>(shut || which == Timers.SHUTDOWN ? table.size() : 0);
+        sweep(which, value, swept);
+        return swept;
+    }
+
+    /** Calls the timers for a policy or a shutdown, and moves what it ended from the table into a list that has room for it. */
+    private void sweep(int which, boolean value, List<ScheduledTask<?>> into) {
         int n = timers.rule(clock(), which, value);
         for (int from = 0; from < n;) {
             int got = timers.ended(from);
             for (int i = 0; i < got; i++) {
                 ScheduledTask<?> task = table.take(timers.endedPlace(i));
                 task.goes();
-                swept.add(task);
+                into.add(task);
             }
             from += got;
         }
         waiting -= n;
-        return swept;
     }
 
     private boolean endsAfterSweep() {
@@ -605,7 +610,7 @@ final class Desk {
         lock();
         try {
             if (over) return;
-            swept = sweep(Timers.SHUTDOWN, true);
+            swept = swept(Timers.SHUTDOWN, true);
             kept.clear();
             shut = true;
             last = endsAfterSweep();
@@ -622,10 +627,9 @@ final class Desk {
         lock();
         try {
             if (over) return List.of();
-            List<ScheduledTask<?>> cancelled = new ArrayList<>(kept.size());
-            kept.forEach(cancelled::add);
-            drained = sweep(Timers.SHUTDOWN_NOW, true);
-            drained.addAll(cancelled);
+            drained = new ArrayList<>(table.size() + kept.size());
+            kept.forEach(drained::add);
+            sweep(Timers.SHUTDOWN_NOW, true, drained);
             kept.clear();
             shut = stopped = true;
             interruptAll();

@@ -39,11 +39,13 @@ import java.util.function.Consumer;
  * <li>It has at most {@value #MOST_WORKERS} threads: a larger core size is refused by an {@link IllegalArgumentException}.
  * <li>{@link #shutdownNow} lists tasks in the order of their submission, and not as they lie in a heap.
  * <li>{@link #getQueue} is a view, whose iterator has what stood there: {@code add}, {@code offer}, {@code put}, {@code take} and the
- *     {@code poll} that waits are refused by an {@link UnsupportedOperationException}.
+ *     {@code poll} that waits are refused by an {@link UnsupportedOperationException}. What is taken out by it may end a pool that is shut,
+ *     where Java's waits until a worker looks.
  * <li>Delays and periods above 2<sup>62</sup> nanoseconds, 146 years, are cut to that, which {@code getDelay} shows.
  * <li>What {@link #decorateTask} makes of a task runs, is cancelled, and stands in the queue in its place. When it runs is told by the
  *     task within, also where the other one has a {@code getDelay} or {@code compareTo} of its own; its {@code run} has to run the task
  *     within before it returns, if a periodic one is to run again; and a cancel of the task within removes it by the policy.
+ * <li>A periodic task whose {@code run} the program calls does not come into the queue once more.
  * </ol>
  *
  * <h2>Memory</h2>
