@@ -15,7 +15,6 @@ import library
 import machine
 import parts as made
 from library import C_LIBRARY, TOP
-from machine import Machine
 from parts import Parts
 from tools import ToolError, compiler, output
 from tree import File, Tree, copied, files
@@ -31,6 +30,8 @@ LIBRARY = "sched/timers/native/linux-x86_64/libtimers_jni.so"
 RELEASE = 11
 # The Java that the classes are compiled and tried with.
 JAVA = 17
+# The level of the processor that the pages of the class name.
+LEVEL = 2
 STRICT = ["-std=c11", "-O2", "-fPIC", "-fvisibility=hidden", "-Wall", "-Wextra", "-Werror", "-pedantic"]
 
 
@@ -85,8 +86,8 @@ def archived(parts: Parts, content: Tree, is_program: bool = False) -> bytes:
     return zipped(files(whole | dict(sorted(content.items()))), parts.moment)
 
 
-def program(parts: Parts, folder: Path) -> tuple[Tree, Machine]:
-    """The classes with the library, and which machines run it."""
+def program(parts: Parts, folder: Path) -> Tree:
+    """The classes with the library, and a file that says which machines run it."""
     whole, built = folder / "timers_c.o", folder / "libtimers_jni.so"
     whole.write_bytes(parts.objects["timers_c"].content)
     shared([whole], built)
@@ -95,8 +96,10 @@ def program(parts: Parts, folder: Path) -> tuple[Tree, Machine]:
         raise ToolError(f"{built.name} needs {sorted(library.needed(built))}, and not {C_LIBRARY} alone")
     compiled(folder / "classes")
     measured = machine.measured(built)
+    if measured.level > LEVEL:
+        raise ToolError(f"{built.name} needs a processor of level {measured.level}, and the pages say {LEVEL}")
     text = f"Measured, of the library: {measured}.\nThe classes: Java {RELEASE} or later; tried with Java {JAVA}.\n"
-    return below(folder / "classes") | {LIBRARY: File(built.read_bytes()), "META-INF/MACHINES": File(text.encode())}, measured
+    return below(folder / "classes") | {LIBRARY: File(built.read_bytes()), "META-INF/MACHINES": File(text.encode())}
 
 
 def pages(folder: Path) -> Tree:
@@ -114,9 +117,8 @@ def package(parts: Parts) -> dict[str, bytes]:
     front = f"{NAME}-{parts.version}"
     with tempfile.TemporaryDirectory() as name:
         folder = Path(name)
-        content, _ = program(parts, folder)
         return {
-            f"{front}.jar": archived(parts, content, is_program=True),
+            f"{front}.jar": archived(parts, program(parts, folder), is_program=True),
             f"{front}-sources.jar": archived(parts, below(CLASSES, "*.java")),
             f"{front}-javadoc.jar": archived(parts, pages(folder)),
         }

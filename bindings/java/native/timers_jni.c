@@ -10,6 +10,7 @@
  * Java names a task by its place in a table of Java's, which is the number that the timers give back with each run. `slots` has the
  * slot of the task at each place.
  */
+#include <cpuid.h>
 #include <jni.h>
 #include <stdlib.h>
 
@@ -77,11 +78,14 @@ static timers_status apply_notes(struct pool *pool, const jlong *words, jint not
     return status;
 }
 
-/* Whether the processor is one that the proved archive runs on: level 2 of x86-64. */
+/* Whether the processor is one that the proved archive runs on: level 2 of x86-64, which is SSE 3, SSSE 3, SSE 4.1 and 4.2, POPCNT,
+ * CMPXCHG16B, and LAHF. */
 JAVA(jboolean, fits)(JNIEnv *env, jclass java) {
+    const unsigned int wanted = bit_SSE3 | bit_SSSE3 | bit_SSE4_1 | bit_SSE4_2 | bit_POPCNT | bit_CMPXCHG16B;
+    unsigned int a, b, c, d;
     (void)env; (void)java;
-    __builtin_cpu_init();
-    return __builtin_cpu_supports("sse4.2") && __builtin_cpu_supports("ssse3") && __builtin_cpu_supports("popcnt");
+    if (!__get_cpuid(1, &a, &b, &c, &d) || (c & wanted) != wanted) return JNI_FALSE;
+    return __get_cpuid(0x80000001, &a, &b, &c, &d) && (c & bit_LAHF_LM) != 0;
 }
 
 /* The address of a direct buffer. */

@@ -38,7 +38,7 @@ final class NativeLibrary {
             String named = System.getProperty(PROPERTY);
             String missing = named == null ? loadFromJar() : loadFrom(Path.of(named));
             if (missing != null) return missing;
-            return Timers.fits() ? null : "the timers need a processor of level 2 of x86-64 (SSE 4.2, SSSE 3, POPCNT)";
+            return Timers.fits() ? null : "the timers need a processor of level 2 of x86-64 (x86-64-v2)";
         } catch (IOException | RuntimeException | LinkageError failure) {
             return "the library of the timers cannot be loaded: " + failure;
         }
