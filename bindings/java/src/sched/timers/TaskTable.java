@@ -31,7 +31,7 @@ final class TaskTable {
     void reserve(Timers timers) {
         if (freed != 0 || used < tasks.length) return;
         if (tasks.length == MOST) throw new OutOfMemoryError("2^30 tasks");
-        int more = Math.max(LEAST, 2 * tasks.length);
+        int more = (int) Math.min(MOST, Math.max(LEAST, tasks.length * 3L / 2)); // as the queue of Java's class
         ScheduledTask<?>[] wider = Arrays.copyOf(tasks, more);
         int[] longer = new int[more];
         if (!timers.reserve(more)) throw new OutOfMemoryError("no memory outside the heap for " + more + " tasks");

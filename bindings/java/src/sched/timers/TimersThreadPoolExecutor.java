@@ -49,7 +49,7 @@ import java.util.function.Consumer;
  * </ol>
  *
  * <h2>Memory</h2>
- * A task has some 80 bytes outside the heap, which are used again once it is over, and freed with the pool: once that is terminated, or
+ * A task has 110 to 170 bytes outside the heap, as the table is filled, which are used again once it is over, and freed with the pool: once that is terminated, or
  * unreachable. As with Java's class, a pool is reachable while it has threads. Where no memory is left for a task, its submission throws
  * an {@link OutOfMemoryError}, and nothing has changed.
  *
