@@ -30,6 +30,8 @@ LIBRARY = "sched/timers/native/linux-x86_64/libtimers_jni.so"
 RELEASE = 11
 # The Java that the classes are compiled and tried with.
 JAVA = 17
+# The tools of a JDK are short: with one compiler and one collector they take a part of the threads, and of the time.
+SHORT = ["-J-XX:TieredStopAtLevel=1", "-J-XX:+UseSerialGC"]
 # The level of the processor that the pages of the class name.
 LEVEL = 2
 STRICT = ["-std=c11", "-O2", "-fPIC", "-fvisibility=hidden", "-Wall", "-Wextra", "-Werror", "-pedantic"]
@@ -66,7 +68,7 @@ def compiled(folder: Path, classes: Path | None = None, *sources: Path) -> None:
     found = sources or sorted(CLASSES.rglob("*.java"))
     front = ["--class-path", classes] if classes else []
     release = [] if sources else ["--release", RELEASE]
-    output([needed_jdk() / "bin" / "javac", *release, "-encoding", "UTF-8", "-Xlint:all,-serial,-options", "-Werror", *front, "-d", folder, *found])
+    output([needed_jdk() / "bin" / "javac", *SHORT, *release, "-encoding", "UTF-8", "-Xlint:all,-serial,-options", "-Werror", *front, "-d", folder, *found])
 
 
 def below(folder: Path, pattern: str = "*") -> Tree:
@@ -104,7 +106,7 @@ def program(parts: Parts, folder: Path) -> Tree:
 
 def pages(folder: Path) -> Tree:
     """What `javadoc` writes, without moments."""
-    words = ["-quiet", "-notimestamp", "-Xdoclint:all", "-Werror", "--release", RELEASE, "-encoding", "UTF-8", "-sourcepath", CLASSES]
+    words = [*SHORT, "-quiet", "-notimestamp", "-Xdoclint:all", "-Werror", "--release", RELEASE, "-encoding", "UTF-8", "-sourcepath", CLASSES]
     output([needed_jdk() / "bin" / "javadoc", *words, "-d", folder / "pages", MODULE])
     return below(folder / "pages")
 

@@ -47,7 +47,7 @@ final class Differences {
         differs("long delays", 1, pool -> {
             ScheduledFuture<?> far = pool.schedule(Scenes.NOTHING, Long.MAX_VALUE, TimeUnit.NANOSECONDS);
             return far.getDelay(TimeUnit.DAYS);
-        }, "53375", "106751");
+        }, "53375", Runtime.version().feature() == 17 ? "106751" : "53375"); // later versions cut them too
         differs("a periodic task that is run by hand", 1, pool -> {
             ScheduledFuture<?> rate = pool.scheduleAtFixedRate(Scenes.NOTHING, 1, 1, HOURS);
             ((Runnable) rate).run();

@@ -132,6 +132,9 @@ final class Lives {
         }
     }
 
+    /** What is let go of once the heap is full, so that the test itself has some: a field, since a local one is collected early. */
+    private static Object[] ballast;
+
     /** A heap that is too small for what is submitted: some submissions throw, and the pool does all else as before. */
     private static void wantOfHeap() throws Exception {
         TimersThreadPoolExecutor pool = new TimersThreadPoolExecutor(1);
@@ -139,8 +142,7 @@ final class Lives {
         pool.setRemoveOnCancelPolicy(true);
         for (int turn = 0; turn < 3; turn++) {
             if (!fills(pool)) System.exit(2);
-            List<Runnable> left = new ArrayList<>(pool.getQueue());
-            for (Runnable task : left) ((java.util.concurrent.Future<?>) task).cancel(false);
+            pool.getQueue().forEach(task -> ((java.util.concurrent.Future<?>) task).cancel(false));
             if (pool.getQueue().size() != 0) System.exit(3);
         }
         if (pool.submit(() -> 5).get(30, SECONDS) != 5) System.exit(4);
@@ -149,7 +151,7 @@ final class Lives {
     }
 
     private static boolean fills(TimersThreadPoolExecutor pool) {
-        Object[] ballast = new Object[100];
+        ballast = new Object[80];
         long accepted = 0;
         try {
             for (int i = 0; i < ballast.length; i++) ballast[i] = new byte[1 << 18];
