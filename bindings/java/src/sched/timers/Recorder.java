@@ -22,6 +22,8 @@ final class Recorder {
 
     private final Consumer<String> trace, plan;
     private int calls;
+    /** The moment of the first call of the block, from which those of its calls are counted. */
+    private long begin;
     private volatile Throwable failure;
 
     Recorder(Consumer<String> trace, Consumer<String> plan) {
@@ -67,8 +69,11 @@ final class Recorder {
     private void call(long moment, String op, Supplier<String> keys) {
         tell(plan, () -> {
             String front = calls == 0 ? "version = 2\n" : "";
-            if (calls++ % MOST_CALLS == 0) front += "\n[[block]]\n";
-            return front + "\n[[block.call]]\nat = " + moment + "\nop = \"" + op + "\"\n" + keys.get();
+            if (calls++ % MOST_CALLS == 0) {
+                begin = moment;
+                front += "\n[[block]]\nat = " + begin + "\n";
+            }
+            return front + "\n[[block.call]]\nat = " + (moment - begin) + "\nop = \"" + op + "\"\n" + keys.get();
         });
     }
 
