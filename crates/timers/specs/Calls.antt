@@ -28,12 +28,12 @@ abbrev pub IsHalfMore : ℕ → ℕ → Type 0
 IsHalfMore before after = (3 * before + 6 ≤ 2 * after) × (2 * after ≤ 3 * before + 8)
 
 -- there are as many slots as before; or each held a task, and now there are half as many more
-abbrev pub GrowsWhereTaken : List (Option Seat) → List (Option Seat) → Type 0
-GrowsWhereTaken old new = (length new ≡ length old) ⊎ (AreTaken old × IsHalfMore (length old) (length new))
+abbrev pub GrowsByHalf : List (Option Seat) → List (Option Seat) → Type 0
+GrowsByHalf old new = (length new ≡ length old) ⊎ (AreTaken old × IsHalfMore (length old) (length new))
 
 -- what a submission leaves of the slots: a task that is rejected wants none
 abbrev pub SlotsFor : List (Option Seat) → List (Option Seat) → Submitted → Type 0
-SlotsFor old new (su.Accepted task due) = GrowsWhereTaken old new
+SlotsFor old new (su.Accepted task due) = GrowsByHalf old new
 SlotsFor old new (su.Rejected number) = new ≡ old
 
 -- a submission has this number, which comes next, and is a call that is made; it is accepted exactly where the executor is not shut,
