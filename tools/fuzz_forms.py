@@ -94,5 +94,5 @@ def end_of_events(events, limit):
         if len(line) > LONGEST_EVENT + 1 or not has_form(line, EVENT_FORMS):
             return count, b"sched: event line %d\n" % (count + 1)
         if count == limit:
-            return count, b"sched: full\n"
+            return count, b"sched: full\nsched: at most %d events are taken; --limit N takes N\n" % limit
     return len(lines_of(events)), b""

@@ -6,6 +6,7 @@ from pathlib import Path
 from fuzz_forms import PLAN_FAULT, end_of_events, lines_of
 
 NO_LIMIT = 2**64
+WARNING = re.compile(rb"plan\.toml(:[0-9]+)?: warning: block [1-9][0-9]*, call [1-9][0-9]*, [^\x00-\x1f\x7f]+\n")
 
 
 class Lints:
@@ -56,11 +57,19 @@ class Lints:
     def reason(self, name, *command):
         """What is told behind the file's name; none where all is fine."""
         ended = self.run(*command)
-        if (ended.code, ended.out, ended.err) == (0, b"fine\n", b""):
+        if (ended.code, ended.out) == (0, b"fine\n"):
+            self.warnings(ended.err, command)
             return None
         is_line = ended.err.startswith(name.encode()) and re.fullmatch(rb"[^\x00-\x1f\x7f]+\n", ended.err)
         self.wants(ended.code == 1 and ended.out == b"" and is_line, f"no reason: {ended.code} {ended.out[:80]} {ended.err[:200]}")
         return ended.err[len(name):]
+
+    def warnings(self, told, command):
+        """What is told of a plan that is one: a line for each warning; with --strict they are a fault, and nothing else is told."""
+        self.wants(all(WARNING.fullmatch(line) for line in lines_of(told)), f"no warnings: {told[:200]}")
+        strict = self.run(*command, "--strict")
+        wanted = (1, b"", told) if told else (0, b"fine\n", b"")
+        self.wants((strict.code, strict.out, strict.err) == wanted, f"--strict: {strict.code} {strict.out} {strict.err[:200]}")
 
 
 def told_lines(reason):

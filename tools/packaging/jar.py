@@ -18,7 +18,7 @@ from library import C_LIBRARY, TOP
 from parts import Parts
 from tools import ToolError, compiler, output
 from tree import File, Tree, copied, files
-from wheel import zipped
+from wheel_form import zipped
 
 SOURCE = TOP / "bindings" / "java"
 CLASSES = SOURCE / "src"

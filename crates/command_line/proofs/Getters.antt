@@ -1,5 +1,5 @@
 -- Getters: what the getters of clap read, in the words of `AsksFor`.
-use Rattle.std.proofs.Common.{ap, refl, subst, sym, ℕ, Option, Some, None, ◌≡◌}
+use Rattle.std.proofs.Common.{ap, codes, refl, subst, sym, ℕ, Bool, true, false, Option, Some, None, ◌≡◌, ◌∙◌}
 use Rattle.std.specs.Prelude.{option_map, unwrap_or, Ok, Err, Result}
 use Rattle.std.specs.Borrow.{Bor}
 use Rattle.std.specs.Str.Parse.{ExplainsUnsignedError, HasUnsignedDigitsIfOk, ParsesUnsigned}
@@ -7,7 +7,7 @@ use Rattle.std.specs.declared.num.ParseIntError.{ParseIntError}
 use Rattle.clap.specs.Words.{ReadsOne, Text, one_of, one_text, rows_of}
 use Rattle.clap.specs.declared.parser.matches.Found.{Found}
 use Rattle.clap.proofs.WalkLemmas.{one_text-rows}
-use Rattle.command_line.specs.Arguments.{IsMaybeNumberOf, IsNumberOf}
+use Rattle.command_line.specs.Arguments.{IsFlagOf, IsMaybeNumberOf, IsNumberOf}
 
 -- the text of an argument, or a text that stands for it
 pub text_of_argument : (found : Option (Bor Text)) (other : Bor Text) → (unwrap_or found other).now ≡ unwrap_or (option_map (λ s. s.now) found) other.now
@@ -55,6 +55,14 @@ number_found bits found id read n none value is =
     subst (λ (t : Option Text). IsNumberOf bits t (unwrap_or read 0)) (one_text-rows found id)
     (number_of_argument ParseIntError (Gives bits) bits (one_text found id) read (λ t r g. g.0) none value) in
     subst (IsNumberOf bits (one_of id (rows_of found))) (sym is) by_rows
+
+-- the flag that `get_flag` gives, by the rows of the matches
+pub flag_found : (found : Found) (id : Text) (flag : Bool)
+    → (one_text found id ≡ None → flag ≡ false) → (one_text found id ≡ Some (codes "true") → flag ≡ true) → (one_text found id ≡ Some (codes "false") → flag ≡ false)
+    → IsFlagOf (one_of id (rows_of found)) flag
+flag_found found id flag none set unset =
+    let read = one_text-rows found id in
+    record { none = λ is. none (read ∙ is); set = λ is. set (read ∙ is); unset = λ is. unset (read ∙ is) }
 
 -- the number that `get_one` gives, by the rows of the matches
 pub maybe_number_found : (bits : ℕ) (found : Found) (id : Text) (read : Option ℕ)

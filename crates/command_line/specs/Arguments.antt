@@ -1,6 +1,6 @@
 -- Arguments: what a command line asks for.
 -- All of it is this project's rule, in the words that clap has for what a command line holds.
-use Rattle.std.specs.Prelude.{◌≡◌, ◌≢◌, ℕ, ◌^◌, ◌<◌, List, [], Option, Some, None, option_map, unwrap_or, codes}
+use Rattle.std.specs.Prelude.{◌≡◌, ◌≢◌, ℕ, ◌^◌, ◌<◌, Bool, true, false, List, [], Option, Some, None, option_map, unwrap_or, codes}
 use Rattle.std.specs.Str.Parse.{IsNumeral, digits_value, without_leading_plus}
 use Rattle.clap.specs.Words.{Row, Text, first_of, one_of, subcommand_of}
 use Rattle.trace_svg.specs.declared.view.View.{View}
@@ -31,6 +31,12 @@ abbrev pub IsMaybeNumberOf : ℕ → Option Text → Option ℕ → Type 0
 IsMaybeNumberOf bits None n = n ≡ None
 IsMaybeNumberOf bits (Some text) n =
     (WritesNumber bits text → n ≡ Some (digits_value 10 (without_leading_plus text))) × (¬ (WritesNumber bits text) → n ≡ None)
+
+-- the flag is set where the text says so, and not set where it says so or there is none
+pub record IsFlagOf (text : Option Text) (flag : Bool) : Type 0 where
+  pub none : text ≡ None → flag ≡ false
+  pub set : text ≡ Some (codes "true") → flag ≡ true
+  pub unset : text ≡ Some (codes "false") → flag ≡ false
 
 -- the name and the two numbers are the values of the arguments of `run` or `pool`
 pub record AsksForRun (rows : List Row) (asked : RunArguments) : Type 0 where
@@ -64,12 +70,14 @@ pub record AsksForLive (rows : List Row) (asked : LiveArguments) : Type 0 where
   pub workers : IsNumberOf 8 (one_of (codes "workers") rows) asked.workers
   pub plan : option_map (λ name. name.now) asked.plan ≡ first_of (codes "plan") rows
 
--- the names and the number, where there are such, are the values of `lint`'s arguments
+-- the names, the number and the flag, where there are such, are the values of `lint`'s arguments
 pub record AsksForLint (rows : List Row) (asked : LintArguments) : Type 0 where
-  pub plan : asked.path.now ≡ unwrap_or (first_of (codes "plan") rows) []
+  pub plan : option_map (λ name. name.now) asked.path ≡ first_of (codes "plan") rows
   pub events : option_map (λ name. name.now) asked.events ≡ first_of (codes "events") rows
   pub trace : option_map (λ name. name.now) asked.trace ≡ first_of (codes "trace") rows
   pub workers : IsMaybeNumberOf 8 (one_of (codes "workers") rows) asked.workers
+  pub calls : option_map (λ name. name.now) asked.calls ≡ first_of (codes "calls") rows
+  pub strict : IsFlagOf (one_of (codes "strict") rows) asked.strict
 
 -- what is asked of one thread, by the command that is named, with what a command line holds for its arguments: a listing by `code`,
 -- the tasks by `tasks`, a check by `check`, a migration by `migrate`, a picture by `draw`, a live run by `live`, and a run of a plan by

@@ -1,18 +1,22 @@
 -- Commands: the command lines that the program takes: `sched run PLAN --workers N [--limit N]`, `sched pool` with the same
 -- arguments, `sched code PLAN`, `sched tasks PLAN`, `sched check PLAN TRACE --workers N`, `sched migrate PLAN`,
 -- `sched draw PLAN TRACE --workers N [--from T] [--to T] [--marks M]`, `sched live --workers N [--plan FILE]` and
--- `sched lint PLAN [--events FILE | --trace FILE --workers N]`.
+-- `sched lint [PLAN] [--events FILE | --trace FILE --workers N | --calls FILE] [--strict]`.
 -- All of it is this project's rule, in the words that clap has for arguments and commands. The texts of help are no part of it.
 use Rattle.std.specs.Prelude.{List, [], ◌∷◌, Some, true, false, pos, codes}
 use Rattle.clap.specs.Words.{App, Rule, Text, new_rule}
 use Rattle.clap.specs.Simple.{new_shape}
-use Rattle.clap.specs.declared.builder.action.ArgAction.TheVariants.{Set}
+use Rattle.clap.specs.declared.builder.action.ArgAction.TheVariants.{Set, SetTrue}
 use Rattle.clap.specs.declared.builder.value_parser.ValueParser.TheVariants.{Signed, Unsigned}
 use Rattle.executor_model.specs.Counts.{most_workers}
 
 -- PLAN: a text, which has to be there
 abbrev pub plan_rule : Rule
 plan_rule = record (new_rule (codes "plan")) { value_names = 1; required = true; action = Some Set }
+
+-- PLAN of a lint: a text, which may be left out
+abbrev pub plan_of_lint_rule : Rule
+plan_of_lint_rule = record plan_rule { required = false }
 
 -- TRACE: a text, which has to be there
 abbrev pub trace_rule : Rule
@@ -58,6 +62,14 @@ trace_file_rule = record (new_rule (codes "trace")) { long = Some (codes "trace"
 abbrev pub workers_of_trace_rule : Rule
 workers_of_trace_rule = record workers_rule { required = false }
 
+-- --calls FILE: a text, which may be left out
+abbrev pub calls_file_rule : Rule
+calls_file_rule = record (new_rule (codes "calls")) { long = Some (codes "calls"); value_names = 1; action = Some Set }
+
+-- --strict: a flag
+abbrev pub strict_rule : Rule
+strict_rule = record (new_rule (codes "strict")) { long = Some (codes "strict"); action = Some SetTrue }
+
 -- a moment: a text of a number of 64 bits, which may be left out
 abbrev pub moment_rule : Text → Rule
 moment_rule name = record (new_rule name) {
@@ -85,6 +97,10 @@ marks_rule = record (new_rule (codes "marks")) {
   parser = Some (Unsigned 0 18446744073709551615);
 }
 
+-- the arguments and options of a lint
+abbrev pub lint_rules : List Rule
+lint_rules = plan_of_lint_rule ∷ events_file_rule ∷ trace_file_rule ∷ workers_of_trace_rule ∷ calls_file_rule ∷ strict_rule ∷ []
+
 -- a command of this name, with these arguments and options
 abbrev pub command_of : Text → List Rule → App
 command_of name rules = record { top = record (new_shape name) { rules = rules }; subs = [] }
@@ -101,6 +117,6 @@ sched_app = record {
       ∷ (command_of (codes "migrate") (plan_rule ∷ [])).top
       ∷ (command_of (codes "draw") (plan_rule ∷ trace_rule ∷ workers_rule ∷ from_rule ∷ to_rule ∷ marks_rule ∷ [])).top
       ∷ (command_of (codes "live") (workers_rule ∷ plan_file_rule ∷ [])).top
-      ∷ (command_of (codes "lint") (plan_rule ∷ events_file_rule ∷ trace_file_rule ∷ workers_of_trace_rule ∷ [])).top
+      ∷ (command_of (codes "lint") lint_rules).top
       ∷ [];
 }

@@ -15,7 +15,7 @@ use trace_svg::View;
 pub enum Asked<'a> {
     /// A run of a plan by a pool over the clocks on standard input.
     Pool(RunArguments<'a>),
-    /// Why a plan is refused, or what goes with it.
+    /// Why a plan is refused, or what goes with it, or the lines of a live run.
     Lint(LintArguments<'a>),
     /// What one thread does, which waits for no other.
     Alone(AskedAlone<'a>),
@@ -90,14 +90,18 @@ pub struct LiveArguments<'a> {
 /// What `sched lint` is asked for.
 #[derive(Clone, Copy, Debug)]
 pub struct LintArguments<'a> {
-    /// The name of the plan's file.
-    pub path: &'a str,
+    /// The name of the plan's file, where one is given.
+    pub path: Option<&'a str>,
     /// The name of the events' file, where one is given.
     pub events: Option<&'a str>,
     /// The name of the trace's file, where one is given.
     pub trace: Option<&'a str>,
     /// How many workers there are, where that is given: 1 to 64.
     pub workers: Option<u8>,
+    /// The name of the file of calls and events, where one is given.
+    pub calls: Option<&'a str>,
+    /// Whether a warning is a fault.
+    pub strict: bool,
 }
 
 impl<'a> Asked<'a> {
@@ -216,10 +220,12 @@ impl<'a> LintArguments<'a> {
         ensures { AsksForLint (rows_of (found_of lint.now)) result }
     {
         LintArguments {
-            path: lint.get_str("plan").unwrap_or(""),
+            path: lint.get_str("plan"),
             events: lint.get_str("events"),
             trace: lint.get_str("trace"),
             workers: lint.get_one::<u8>("workers"),
+            calls: lint.get_str("calls"),
+            strict: lint.get_flag("strict"),
         }
     }
 }

@@ -2,7 +2,7 @@
 
 ghost use Rattle.std.specs.Prelude.{◌≡◌, false, [], ◌∷◌, codes, IfOk};
 ghost use Rattle.clap.specs.Words.{app_of, rule_of};
-ghost use Rattle.command_line.specs.Commands.{command_of, events_file_rule, from_rule, limit_rule, marks_rule, plan_file_rule, plan_rule, sched_app, to_rule, trace_file_rule, trace_rule, workers_of_trace_rule, workers_rule};
+ghost use Rattle.command_line.specs.Commands.{command_of, calls_file_rule, events_file_rule, from_rule, limit_rule, lint_rules, marks_rule, plan_file_rule, plan_of_lint_rule, plan_rule, sched_app, strict_rule, to_rule, trace_file_rule, trace_rule, workers_of_trace_rule, workers_rule};
 
 use crate::help::{CODE, DRAWING, FINDINGS, FORMS, LINT, LIVE, MIGRATION, POOL, STATUSES, TASKS};
 use crate::version::VERSION;
@@ -13,7 +13,7 @@ use std::alloc::{AllocError, Global};
 /// The command lines of the program: `sched run PLAN --workers N [--limit N]`, `sched pool` with the same arguments,
 /// `sched code PLAN`, `sched tasks PLAN`, `sched check PLAN TRACE --workers N`, `sched migrate PLAN`,
 /// `sched draw PLAN TRACE --workers N [--from T] [--to T] [--marks M]`, `sched live --workers N [--plan FILE]` and
-/// `sched lint PLAN [--events FILE | --trace FILE --workers N]`. `Err` where memory ran out.
+/// `sched lint [PLAN] [--events FILE | --trace FILE --workers N | --calls FILE] [--strict]`. `Err` where memory ran out.
 pub fn command<'a>(alloc: Global) -> Result<Command<'a>, AllocError>
     ensures app { IfOk result (λ c. app_of c ≡ sched_app) }
 {
@@ -152,18 +152,20 @@ fn live_command<'a>(alloc: Global) -> Result<Command<'a>, AllocError>
     )
 }
 
-/// `lint`, with its four arguments. `Err` where memory ran out.
+/// `lint`, with its six arguments. `Err` where memory ran out.
 fn lint_command<'a>(alloc: Global) -> Result<Command<'a>, AllocError>
-    ensures app { IfOk result (λ c. app_of c ≡ command_of (codes "lint") (plan_rule ∷ events_file_rule ∷ trace_file_rule ∷ workers_of_trace_rule ∷ [])) }
+    ensures app { IfOk result (λ c. app_of c ≡ command_of (codes "lint") lint_rules) }
 {
     Ok(
         Command::new(alloc, "lint")
-            .about("Says why a plan is refused, or the events or the trace that go with it.")
+            .about("Says why a plan is refused, or the events, the trace or the calls of a file.")
             .after_help(LINT)
-            .arg(plan(alloc))?
+            .arg(plan_of_lint(alloc))?
             .arg(events_file(alloc))?
             .arg(trace_file(alloc))?
-            .arg(workers_of_trace(alloc))?,
+            .arg(workers_of_trace(alloc))?
+            .arg(calls_file(alloc))?
+            .arg(strict(alloc))?,
     )
 }
 
@@ -177,6 +179,16 @@ fn plan<'a>(alloc: Global) -> Arg<'a>
         .help("The file of the plan: which tasks are submitted, and when")
         .required(true)
         .action(ArgAction::Set)
+}
+
+/// `PLAN` of a lint, which may be left out.
+fn plan_of_lint<'a>(alloc: Global) -> Arg<'a>
+    ensures rule { rule_of result ≡ plan_of_lint_rule }
+    ensures local { result.global ≡ false }
+{
+    plan(alloc)
+        .help("The file of the plan")
+        .required(false)
 }
 
 /// `TRACE`, which has to be there.
@@ -265,6 +277,29 @@ fn workers_of_trace<'a>(alloc: Global) -> Arg<'a>
     workers(alloc)
         .help("How many workers the trace has, 1 to 64")
         .required(false)
+}
+
+/// `--calls FILE`, which may be left out.
+fn calls_file<'a>(alloc: Global) -> Arg<'a>
+    ensures rule { rule_of result ≡ calls_file_rule }
+    ensures local { result.global ≡ false }
+{
+    Arg::new(alloc, "calls")
+        .long("calls")
+        .value_name("FILE")
+        .help("The file of calls and events, as 'sched live' takes them, that is looked at, without PLAN")
+        .action(ArgAction::Set)
+}
+
+/// `--strict`, a flag.
+fn strict<'a>(alloc: Global) -> Arg<'a>
+    ensures rule { rule_of result ≡ strict_rule }
+    ensures local { result.global ≡ false }
+{
+    Arg::new(alloc, "strict")
+        .long("strict")
+        .help("A warning is a fault: the exit status is 1")
+        .action(ArgAction::SetTrue)
 }
 
 /// `--from T`, a number of 64 bits, which may be left out.

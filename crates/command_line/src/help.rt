@@ -338,7 +338,8 @@ P and the D of fixed 1 to 2^62. K is below 2^32. Tasks are numbered from 0 in
 the order of their calls, whether they are accepted or not.
 A call is made now, or 1 ns after the last clock that was accepted, whichever is
 later: behind 'clock 5' at 6, and at 0 before any clock. An event 'cancel K' of
-a task that was not submitted before is answered 'error no task'.
+a task that was not submitted before is answered 'error no task', and so is a
+'call cancel K', which is that event then and no call.
 The trace goes to standard output. A line is answered as soon as it was read
 whole: all lines that were read are answered before more are read.
 There is no limit on lines but these, beyond which there is no room for one:
@@ -359,8 +360,7 @@ Exit status:
   1  a fault, the first of these that there is, told by its line on standard
      error:
        sched: event line N                line N, counted from 1, is no event and
-                                          no call, or a call that cancels a task
-                                          that was not submitted before
+                                          no call
        sched: full                        there is no room for a further line
        sched: read fault
        sched: write fault
@@ -382,19 +382,26 @@ there and what is wanted:
   plan.toml:12: block 2, call 1, op = \"sched\": no such op; one of schedule, ..
   events.txt:3: \"clock 05\": leading zero; ..
   trace.txt:4: \"5 start 0 idle\": breaks; \"5 start 0 task 0 run 0 due 5\" ..
+  calls.txt:1: \"call rate 5\": too short; call rate F P
 The plan is looked at first, and only the first thing that is wrong is told.
-Events are looked at by their spelling alone. Of a trace that breaks up to three
-lines are told that could stand there, and with which other numbers of workers
-the trace conforms.
+Events and calls are looked at by their spelling alone. Of a trace that breaks
+up to three lines are told that could stand there, and with which other numbers
+of workers the trace conforms.
+Where nothing is wrong, lines on standard error tell what is odd of a plan:
+  plan.toml:7: warning: block 1, call 1, period = 0: not above 0; ..
+of submissions that are refused each time, since they are illegal or stand
+behind a shutdown, or from the second iteration on; of cancels of such; of
+periods under a microsecond that have no unit; and of names that no cancel has,
+where there is a cancel.
 A file has at most 67,108,864 bytes, and a plan 1,048,576. One of the files may
 be named '-', which is standard input.
 
 Exit status:
   0  nothing is wrong: 'fine' was printed
   1  something is wrong, or a file can't be read, which a line tells that begins
-     with the file's name; or there was a fault, told by one of these lines on
-     standard error:
+     with the file's name; or with --strict there is a warning; or there was a
+     fault, told by one of these lines on standard error:
        sched: write fault
        sched: out of memory
-  2  a fault of the command line, on which --events stands alone, and --trace
-     and --workers stand together";
+  2  a fault of the command line: 'lint' takes PLAN, or it and --events, or it,
+     --trace and --workers, or --calls alone";

@@ -79,14 +79,20 @@ Alone(Live(LiveArguments { workers: 2, plan: Some(\"-p\") })) | sched live --wor
 Alone(Live(LiveArguments { workers: 3, plan: Some(\"\") })) | sched live --plan= --workers 3
 Alone(Live(LiveArguments { workers: 2, plan: Some(\"p\") })) | sched live --workers 2 --plan p";
 
-/// Lints: the name of the plan's file, those of the events' and of the trace's, and how many workers there are.
-const TAKES_A_NAME_AND_MAYBE_OTHERS_FOR_A_LINT: &str =
-    "Lint(LintArguments { path: \"p\", events: None, trace: None, workers: None }) | sched lint p
-Lint(LintArguments { path: \"p\", events: Some(\"e\"), trace: None, workers: None }) | sched lint p --events e
-Lint(LintArguments { path: \"p\", events: None, trace: Some(\"t\"), workers: Some(64) }) | sched lint p --trace t --workers 64
-Lint(LintArguments { path: \"-p\", events: Some(\"e\"), trace: Some(\"-\"), workers: Some(1) }) \
-  | sched lint --workers=1 --trace=- --events e -- -p
-Lint(LintArguments { path: \"p\", events: None, trace: Some(\"t\"), workers: Some(2) }) | sched lint p --trace t --workers 2";
+/// Lints: the names of the files of the plan, of the events, of the trace and of the calls, how many workers there are, and whether a warning
+/// is a fault.
+const TAKES_NAMES_AND_A_FLAG_FOR_A_LINT: &str =
+    "Lint(LintArguments { path: Some(\"p\"), events: None, trace: None, workers: None, calls: None, strict: false }) | sched lint p
+Lint(LintArguments { path: Some(\"p\"), events: Some(\"e\"), trace: None, workers: None, calls: None, strict: true }) \
+  | sched lint p --events e --strict
+Lint(LintArguments { path: Some(\"p\"), events: None, trace: Some(\"t\"), workers: Some(64), calls: None, strict: false }) \
+  | sched lint p --trace t --workers 64
+Lint(LintArguments { path: Some(\"-p\"), events: Some(\"e\"), trace: Some(\"-\"), workers: Some(1), calls: Some(\"c\"), strict: true }) \
+  | sched lint --workers=1 --strict --calls=c --trace=- --events e -- -p
+Lint(LintArguments { path: None, events: None, trace: None, workers: None, calls: Some(\"c\"), strict: false }) | sched lint --calls c
+Lint(LintArguments { path: None, events: None, trace: None, workers: None, calls: None, strict: false }) | sched lint
+Lint(LintArguments { path: Some(\"p\"), events: None, trace: Some(\"t\"), workers: Some(2), calls: None, strict: false }) \
+  | sched lint p --trace t --workers 2";
 
 /// Command lines that the program ends at.
 const REFUSES_WHAT_IS_MISSING_TOO_MUCH_OR_OUT_OF_RANGE: &str = "status 2 | sched check p --workers 1
@@ -137,13 +143,16 @@ status 2 | sched live --workers 1 p
 status 2 | sched live --workers 1 --plan
 status 2 | sched live --workers 1 --plan p --plan q
 status 2 | sched live --workers 1 --limit 3
-status 2 | sched lint
 status 2 | sched lint p q
 status 2 | sched lint p --events
 status 2 | sched lint p --trace t --workers 0
 status 2 | sched lint p --trace t --workers 65
 status 2 | sched lint p --events e --events e
 status 2 | sched lint p --limit 3
+status 2 | sched lint --calls
+status 2 | sched lint --calls c --calls d
+status 2 | sched lint p --strict --strict
+status 2 | sched lint p --strict=1
 status 0 | sched --version
 status 0 | sched -V
 status 2 | sched run --version";
@@ -155,7 +164,7 @@ fn takes_each_command_line(rt: HostRuntime) -> Result<(), Fail> {
         TAKES_A_NAME_AND_TWO_NUMBERS_FOR_A_POOL,
         TAKES_TWO_NAMES_AND_FOUR_NUMBERS_FOR_A_PICTURE,
         TAKES_A_NUMBER_AND_MAYBE_A_NAME_FOR_A_LIVE_RUN,
-        TAKES_A_NAME_AND_MAYBE_OTHERS_FOR_A_LINT,
+        TAKES_NAMES_AND_A_FLAG_FOR_A_LINT,
         REFUSES_WHAT_IS_MISSING_TOO_MUCH_OR_OUT_OF_RANGE,
         TAKES_NAMES,
     ] {

@@ -11,17 +11,19 @@ use std::process::Abort;
 use std::test::Fail;
 use trace_svg::DrawError;
 
-/// Checks that an answer is told by just this line on a standard error with a script, and this status, and how often that was called.
+/// Checks that an answer with a hint is told by just these lines on a standard error with a script, and this status, and how often that was
+/// called.
 fn is_told_by(
     rt: &(impl AllocGlobal + Abort),
     answer: Result<Answer, ProgramError>,
+    hint: Option<&Refusal>,
     script: Script,
     status: u8,
     line: &str,
     calls: u32,
 ) {
     let mut faults = Writing::new(Taking::new(rt.alloc(), script));
-    assert!(rt; tell(&mut faults, answer) == status);
+    assert!(rt; tell(&mut faults, answer, hint) == status);
     let end = faults.into_inner();
     assert!(rt; end.taken() == line.as_bytes(), "{line}");
     assert!(rt; end.calls() == calls);
@@ -29,7 +31,7 @@ fn is_told_by(
 
 /// Checks that a fault is told by just this line, at one call, and this status.
 fn is_told(rt: &(impl AllocGlobal + Abort), fault: ProgramError, status: u8, line: &str) {
-    is_told_by(rt, Err(fault), Script::smooth(128), status, line, 1)
+    is_told_by(rt, Err(fault), None, Script::smooth(128), status, line, 1)
 }
 
 /// A fault of a plan in the second call of its third block.
@@ -125,7 +127,7 @@ fn tells_each_error(rt: HostRuntime) -> Result<(), Fail> {
 fn tells_faults_of_the_arguments(rt: HostRuntime) {
     let line = "sched: command line not UTF-8\n";
     is_told(&rt, ProgramError::Arguments, 2, line);
-    let line = "sched: --events stands alone, and --trace and --workers stand together\n";
+    let line = "sched: lint takes PLAN, or it and --events, or it, --trace and --workers, or --calls alone\n";
     is_told(&rt, ProgramError::LintOptions, 2, line);
 }
 
@@ -147,8 +149,50 @@ const REFUSALS: &[(&str, &str)] = &[
 fn tells_a_refusal_by_one_line_and_status_1(rt: HostRuntime) -> Result<(), Fail> {
     for &(told, line) in REFUSALS {
         let refused = Answer::Refused(Refusal::new(rt.alloc(), told)?);
-        is_told_by(&rt, Ok(refused), Script::smooth(128), 1, line, 1);
+        is_told_by(&rt, Ok(refused), None, Script::smooth(128), 1, line, 1);
     }
+    Ok(())
+}
+
+/// Checks that two warnings, with an exit status, are told by just this text on a standard error with a script, and how often that was called.
+fn are_warned(
+    rt: &(impl AllocGlobal + Abort),
+    status: u8,
+    script: Script,
+    text: &str,
+    calls: u32,
+) -> Result<(), Fail> {
+    let mut warnings = Vec::new(rt.alloc());
+    for told in ["a: warning: one", "a: warning: two\nthree"] {
+        warnings.push(Refusal::new(rt.alloc(), told)?)?;
+    }
+    let answer = Ok(Answer::Warned(warnings, status));
+    is_told_by(rt, answer, None, script, status, text, calls);
+    Ok(())
+}
+
+#[test]
+fn tells_warnings_by_a_line_each_and_their_status(rt: HostRuntime) -> Result<(), Fail> {
+    let lines = "a: warning: one\na: warning: two\n";
+    are_warned(&rt, 0, Script::smooth(128), lines, 2)?;
+    are_warned(&rt, 1, Script::smooth(128), lines, 2)?;
+    are_warned(&rt, 1, script_of(Standing::Closed), "", 1)?;
+    are_warned(&rt, 0, script_of(Standing::Full), "a: warning", 3)?;
+    let none = Answer::Warned(Vec::new(rt.alloc()), 0);
+    is_told_by(&rt, Ok(none), None, Script::smooth(128), 0, "", 0);
+    Ok(())
+}
+
+#[test]
+fn tells_a_hint_behind_the_line_of_an_error_alone(rt: HostRuntime) -> Result<(), Fail> {
+    let hint = Refusal::new(rt.alloc(), "sched: a: no such file")?;
+    let lines = "sched: plan file not read\nsched: a: no such file\n";
+    let fault = Err(ProgramError::PlanFile);
+    is_told_by(&rt, fault, Some(&hint), Script::smooth(128), 1, lines, 2);
+    let done = Ok(Answer::Status(0));
+    is_told_by(&rt, done, Some(&hint), Script::smooth(128), 0, "", 0);
+    let fault = Err(ProgramError::PlanFile);
+    is_told_by(&rt, fault, Some(&hint), script_of(Standing::Closed), 1, "", 1);
     Ok(())
 }
 
@@ -158,6 +202,7 @@ fn tells_a_status_by_no_line(rt: HostRuntime) {
         is_told_by(
             &rt,
             Ok(Answer::Status(status)),
+            None,
             Script::smooth(128),
             status,
             "",
@@ -222,7 +267,7 @@ const STANDINGS: &[(Standing, &str, u32)] = &[
 fn tells_an_error_by_its_status_where_standard_error_is_at_fault(rt: HostRuntime) {
     for &(standing, line, calls) in STANDINGS {
         let error = ProgramError::Run(RunError::Full);
-        is_told_by(&rt, Err(error), script_of(standing), 1, line, calls);
+        is_told_by(&rt, Err(error), None, script_of(standing), 1, line, calls);
     }
 }
 

@@ -45,7 +45,7 @@ fn an_error_is_told(rt: HostRuntime) {
     let alloc = rt.alloc();
     // example: sched_program
     let mut faults = Writing::new(Vec::new(alloc));
-    let status = tell(&mut faults, Err(ProgramError::PlanFile));
+    let status = tell(&mut faults, Err(ProgramError::PlanFile), None);
     assert!(rt; status == 1);
     assert!(rt; faults.into_inner().as_slice() == b"sched: plan file not read\n".as_slice());
     // end of example

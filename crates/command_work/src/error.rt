@@ -17,7 +17,7 @@ use trace_svg::DrawError;
 pub enum ProgramError {
     /// An argument of the command line is not UTF-8.
     Arguments,
-    /// Of `--events`, `--trace` and `--workers` some are given that do not go together.
+    /// What a lint is to look at is left out, or does not go together.
     LintOptions,
     /// The plan file can't be read.
     PlanFile,

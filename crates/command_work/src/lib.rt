@@ -31,7 +31,7 @@
 //! | `migrate` | [`migrate_file`] |
 //! | `draw` | [`draw_files`] |
 //! | `live` | [`live_lines`], and [`write_plan`] for the plan of its calls |
-//! | `lint` | [`find_wrong`], which answers the line that says what is wrong, a [`Refusal`] |
+//! | `lint` | [`find_wrong`], which answers the line that says what is wrong, or those that tell what is odd, each a [`Refusal`] |
 //!
 //! # Errors
 //!
@@ -48,6 +48,8 @@ mod finding;
 mod laws;
 mod lint;
 mod lint_files;
+mod lint_lines;
+mod lint_warnings;
 mod live;
 mod refusal;
 mod work;
@@ -56,7 +58,7 @@ pub use drawing::draw_files;
 pub use error::ProgramError;
 pub use files::{MOST_OF_PLAN, MOST_OF_TRACE, plan_front, plan_text, trace_text, whole_trace};
 pub use laws::program_error_equality_tells;
-pub use lint::{Beside, find_wrong};
+pub use lint::{Beside, Found, Looked, find_wrong};
 pub use live::{live_lines, write_plan, write_plan_text};
 pub use refusal::Refusal;
 pub use work::{check_files, list_file, migrate_file, pool_file, run_file, tasks_file};

@@ -1,28 +1,36 @@
-//! Why a plan is refused, or the events or the trace that go with it, as a line.
+//! Why a plan is refused, or the events or the trace that go with it, or the lines of a live run, as a line.
 
-ghost use Rattle.std.specs.Prelude.{◌≡◌, ◌⊎◌, IfErr, IfOk, IsSome, MatchOption};
-ghost use Rattle.executor_model.specs.Counts.{IsWorkerCount};
+ghost use Rattle.std.specs.Prelude.{◌≡◌, ◌⊎◌, None, IfErr, IfOk, MatchOption};
 ghost use Rattle.plan_read.specs.Texts.{TextFails};
 ghost use Rattle.plan_read.specs.declared.faults.PlanFault.{PlanFault};
 ghost use Rattle.command_work.specs.Fronts.{IsReadOf, most_of_trace};
-ghost use Rattle.command_work.specs.Linting.{EventsRight, EventsWrong, Finds, IsUncounted, TraceRight, TraceWrong, asked_beside, beside_of};
+ghost use Rattle.command_work.specs.Linting.{AsksUncounted, BesideRight, BesideWrong, Finds, FindsAsked, IsFileOf, IsUncounted, asked_of};
 ghost use Rattle.command_work.specs.declared.error.ProgramError.TheVariants.{LintOptions, Run};
+ghost use Rattle.command_work.specs.declared.lint.Looked.TheVariants.{Plan};
 ghost use Rattle.sched_engine.specs.declared.report.RunError.TheVariants.{Memory, Workers};
 
 use crate::error::ProgramError;
-use crate::files::{MOST_OF_PLAN, MOST_OF_TRACE};
+use crate::files::MOST_OF_PLAN;
 use crate::lint_files::read_file;
+use crate::lint_lines::{calls_wrong, events_wrong, trace_wrong};
+use crate::lint_warnings::warning_lines;
 use crate::refusal::Refusal;
 use byte_ends::Source;
 use command_line::LintArguments;
-use line_reasons::{FileName, reason_of_events};
 use plan_read::{Plan, PlanFaultKind, read_plan};
 use plan_reasons::reason_of;
 use sched_engine::RunError;
-use std::alloc::{AllocError, Global};
+use std::alloc::Global;
 use std::io;
-use trace_check::{CheckError, MOST_BYTES};
-use trace_reasons::reason_of_trace;
+
+/// What is looked at.
+#[derive(Clone, Copy, Debug)]
+pub enum Looked<'a> {
+    /// The plan of a file, and something beside it.
+    Plan(&'a str, Beside<'a>),
+    /// The events and the calls of a file, as a live run has them.
+    Calls(&'a str),
+}
 
 /// What is looked at beside a plan.
 #[derive(Clone, Copy, Debug)]
@@ -35,48 +43,80 @@ pub enum Beside<'a> {
     Trace(&'a str, u8),
 }
 
-/// What is looked at beside a plan; none where the options do not go together.
-fn looked_at<'a>(asked: &LintArguments<'a>) -> Option<Beside<'a>>
-    ensures { result ≡ beside_of asked.now.events asked.now.trace asked.now.workers }
+/// What a lint finds.
+#[derive(Debug, Drop)]
+pub enum Found {
+    /// Nothing is wrong, and each line tells something odd of the plan, in the order of its text.
+    Fine(Vec<Refusal>),
+    /// Something is wrong, and the line says what.
+    Wrong(Refusal),
+}
+
+/// What is looked at; none where the options do not go together, or name nothing.
+fn looked_at<'a>(asked: &LintArguments<'a>) -> Option<Looked<'a>>
+    ensures { result ≡ asked_of asked.now }
 {
-    match (asked.events, asked.trace, asked.workers) {
-        (None, None, None) => Some(Beside::Nothing),
-        (Some(events), None, None) => Some(Beside::Events(events)),
-        (None, Some(trace), Some(workers)) => Some(Beside::Trace(trace, workers)),
+    match (asked.path, asked.events, asked.trace, asked.workers, asked.calls) {
+        (Some(plan), None, None, None, None) => Some(Looked::Plan(plan, Beside::Nothing)),
+        (Some(plan), Some(events), None, None, None) => {
+            Some(Looked::Plan(plan, Beside::Events(events)))
+        }
+        (Some(plan), None, Some(trace), Some(workers), None) => {
+            Some(Looked::Plan(plan, Beside::Trace(trace, workers)))
+        }
+        (None, None, None, None, Some(calls)) => Some(Looked::Calls(calls)),
         _ => None,
     }
 }
 
-/// Looks at the plan's file and at that of the events or of the trace, as asked: the line that says what is wrong; none where nothing
-/// is. The second file is opened where the plan is one. `Err` where the options do not go together: no file is opened; or where memory
-/// ran out, or the number of workers is not 1 to 64.
+/// Looks at the files that are asked for: the plan's and that of the events or of the trace, or that of calls. The second file is
+/// opened where the plan is one. `Err` where the options do not go together: no file is opened; or where memory ran out, or the number
+/// of workers is not 1 to 64.
 pub fn find_wrong<P: Source + Drop, O: Fn(&str) -> io::Result<P> + Drop>(
     heap: Global,
     asked: &LintArguments<'_>,
     open_file: O,
-) -> Result<Option<Refusal>, ProgramError>
+) -> Result<Found, ProgramError>
     requires { O.IsAlwaysCallable open_file }
     ensures finds { IfOk result
-        (Finds (IsReadOf P.remaining P.failed P.fruitless) (O.post open_file) asked.now) }
+        (FindsAsked (IsReadOf P.remaining P.failed P.fruitless) (O.post open_file)
+        (asked_of asked.now)) }
     ensures fault { IfErr result
-        (λ e. (e ≡ Run Memory) ⊎ ((e ≡ LintOptions) × (IsSome (asked_beside asked.now) → ⊥))
-        ⊎ ((e ≡ Run Workers) × IsUncounted (asked_beside asked.now))) }
+        (λ e. (e ≡ Run Memory) ⊎ ((e ≡ LintOptions) × (asked_of asked.now ≡ None))
+        ⊎ ((e ≡ Run Workers) × AsksUncounted (asked_of asked.now))) }
 {
-    let Some(beside) = looked_at(asked) else {
-        return Err(ProgramError::LintOptions);
-    };
-    let text = match read_file(heap, asked.path, open_file(asked.path), MOST_OF_PLAN)? {
+    match looked_at(asked) {
+        Some(Looked::Plan(name, beside)) => plan_wrong(heap, name, beside, open_file),
+        Some(Looked::Calls(name)) => calls_wrong(heap, name, open_file(name)),
+        None => Err(ProgramError::LintOptions),
+    }
+}
+
+/// Looks at a plan's file, and where it is one at what is beside it. `Err` where memory ran out, or the number of workers is not 1 to
+/// 64.
+fn plan_wrong<P: Source + Drop, O: Fn(&str) -> io::Result<P> + Drop>(
+    heap: Global,
+    name: &str,
+    beside: Beside<'_>,
+    open_file: O,
+) -> Result<Found, ProgramError>
+    requires { O.IsAlwaysCallable open_file }
+    ensures finds { IfOk result
+        (Finds (IsReadOf P.remaining P.failed P.fruitless) (O.post open_file) (Plan name beside)) }
+    ensures fault { IfErr result
+        (λ e. (e ≡ Run Memory) ⊎ ((e ≡ Run Workers) × IsUncounted beside)) }
+{
+    let text = match read_file(heap, name, open_file(name), MOST_OF_PLAN)? {
         Ok(text) => text,
-        Err(unread) => return Ok(Some(unread)),
+        Err(unread) => return Ok(Found::Wrong(unread)),
     };
     let plan = match read_plan(heap, &text) {
         Ok(plan) => plan,
-        Err(_) => return Ok(Some(plan_refusal(heap, asked.path, &text)?)),
+        Err(_) => return Ok(Found::Wrong(plan_refusal(heap, name, &text)?)),
     };
-    match beside {
-        Beside::Nothing => Ok(None),
-        Beside::Events(name) => events_wrong(heap, name, open_file(name)),
-        Beside::Trace(name, workers) => trace_wrong(heap, &plan, name, workers, open_file(name)),
+    match beside_wrong(heap, &plan, beside, open_file)? {
+        Some(line) => Ok(Found::Wrong(line)),
+        None => Ok(Found::Fine(warning_lines(heap, name, &plan, &text)?)),
     }
 }
 
@@ -93,67 +133,27 @@ fn plan_refusal(heap: Global, name: &str, text: &[u8]) -> Result<Refusal, Progra
     }
 }
 
-/// The line that says why a file of events, as the system opened it, is refused; none where it is not. `Err` is want of memory.
-fn events_wrong<P: Source + Drop>(
-    heap: Global,
-    name: &str,
-    opened: io::Result<P>,
-) -> Result<Option<Refusal>, ProgramError>
-    ensures finds { IfOk result
-        (λ told. MatchOption told
-        (EventsRight (IsReadOf P.remaining P.failed P.fruitless most_of_trace opened))
-        (λ line. EventsWrong (IsReadOf P.remaining P.failed P.fruitless most_of_trace opened))) }
-    ensures fault { IfErr result (λ e. e ≡ Run Memory) }
-{
-    let text = match read_file(heap, name, opened, MOST_OF_TRACE)? {
-        Ok(text) => text,
-        Err(unread) => return Ok(Some(unread)),
-    };
-    if text.len() > MOST_BYTES {
-        return Ok(Some(too_long(heap, name)?));
-    }
-    match reason_of_events(heap, &text) {
-        Some(reason) => { Ok(Some(Refusal::of(heap, &reason.in_file(name))?)) }
-        None => Ok(None),
-    }
-}
-
-/// The line that says why the trace of a file, as the system opened it, is none of a plan with so many workers, 1 to 64; none where it
-/// is one. `Err` is want of memory, or another number of workers.
-fn trace_wrong<P: Source + Drop>(
+/// The line that says what is wrong with what is beside a plan; none where nothing is. `Err` where memory ran out, or the number of
+/// workers is not 1 to 64.
+fn beside_wrong<P: Source + Drop, O: Fn(&str) -> io::Result<P> + Drop>(
     heap: Global,
     plan: &Plan<Global>,
-    name: &str,
-    workers: u8,
-    opened: io::Result<P>,
+    beside: Beside<'_>,
+    open_file: O,
 ) -> Result<Option<Refusal>, ProgramError>
+    requires { O.IsAlwaysCallable open_file }
     ensures finds { IfOk result
         (λ told. MatchOption told
-        (TraceRight (IsReadOf P.remaining P.failed P.fruitless most_of_trace opened) plan.now
-        workers)
-        (λ line. TraceWrong (IsReadOf P.remaining P.failed P.fruitless most_of_trace opened)
-        plan.now workers)) }
+        (BesideRight (IsFileOf (IsReadOf P.remaining P.failed P.fruitless) (O.post open_file) most_of_trace)
+        plan.now beside)
+        (λ line. BesideWrong (IsFileOf (IsReadOf P.remaining P.failed P.fruitless) (O.post open_file) most_of_trace)
+        plan.now beside)) }
     ensures fault { IfErr result
-        (λ e. (e ≡ Run Memory) ⊎ ((e ≡ Run Workers) × ¬ IsWorkerCount workers)) }
+        (λ e. (e ≡ Run Memory) ⊎ ((e ≡ Run Workers) × IsUncounted beside)) }
 {
-    let text = match read_file(heap, name, opened, MOST_OF_TRACE)? {
-        Ok(text) => text,
-        Err(unread) => return Ok(Some(unread)),
-    };
-    if text.len() > MOST_BYTES {
-        return Ok(Some(too_long(heap, name)?));
+    match beside {
+        Beside::Nothing => Ok(None),
+        Beside::Events(name) => events_wrong(heap, name, open_file(name)),
+        Beside::Trace(name, workers) => trace_wrong(heap, plan, name, workers, open_file(name)),
     }
-    match reason_of_trace(heap, plan, workers, &text) {
-        Ok(Some(reason)) => { Ok(Some(Refusal::of(heap, &reason.in_file(name))?)) }
-        Ok(None) => Ok(None),
-        Err(CheckError::Workers) => Err(ProgramError::Run(RunError::Workers)),
-        Err(CheckError::Memory) => Err(ProgramError::Run(RunError::Memory)),
-    }
-}
-
-/// The line that says that a file is longer than it may be.
-fn too_long(heap: Global, name: &str) -> Result<Refusal, AllocError> {
-    let name = FileName(name);
-    let told = format!(in heap; "{name}: too long; at most {MOST_BYTES} bytes")?;
-    Refusal::new(heap, told.as_str())
 }

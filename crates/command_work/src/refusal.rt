@@ -1,4 +1,4 @@
-//! The line that says why a file is refused.
+//! A line that says why a file is refused, or what is odd of it.
 
 ghost use Rattle.std.specs.Prelude.{◌≡◌, ◌≤◌, IfOk, length, string_bytes};
 ghost use Rattle.std.specs.List.{position_or_len};
@@ -9,7 +9,7 @@ use memchr::memchr;
 use std::alloc::{AllocError, Global};
 use std::fmt::Display;
 
-/// Why a file is refused: one line for standard error, with its newline.
+/// Why a file is refused, or what is odd of it: one line for standard error, with its newline.
 #[derive(Debug, Drop)]
 pub struct Refusal {
     line: Vec<u8>,

@@ -77,11 +77,11 @@
 //!
 //! # Memory and cost
 //!
-//! Memory is asked for by `new`, by the four submissions and by [`reserve`](ScheduledExecutor::reserve), for lines by `add_lines`,
-//! and by no other call; a submission asks only where each slot holds a task. Where it is refused, nothing has changed. There are as
-//! many slots as `reserve` was asked for, or at most twice as many as there were tasks alive at once, and two; none is given back.
-//! A submission that makes more makes at least as many as there are. Each has room for a task, an entry in each of two queues, two
-//! entries in an index by number, and notes that it is empty and that its task was ended.
+//! That memory was refused is told by `new`, by the four submissions, where each slot holds a task, by
+//! [`reserve`](ScheduledExecutor::reserve), and for lines by `add_lines`, and by no other call; that no other one asks for memory is
+//! tested. Where it is refused, nothing has changed. There are as many slots as `reserve` was asked for, or at most twice as many as there
+//! were tasks alive at once, and two; none is given back. A submission that makes more makes at least as many as there are. Each has room
+//! for a task, an entry in each of two queues, three entries in an index by number, and notes that it is empty and that its task was ended.
 //!
 //! With n tasks alive, a submission, a start, a finish or a cancel takes a time in the order of log n, for changes of two heaps and
 //! a search. A submission where the index is full goes over it, from the newest entry on until each task that is alive is found, and

@@ -73,8 +73,8 @@
 //!   letters, or else at most two edits away.
 //! - The most blocks and the most calls, of a block and in all, are those of `plan_read` ([`limits_agree`]).
 //!
-//! That a key is told, and which of those at which a fault of its kind may be, what is told to be wanted, the keys and the words
-//! of a choice among it, and the text of a reason are only tested, in `reason_tests`.
+//! That a key is told, and which of those at which a fault of its kind may be, that the line is that key's and not a namesake's, what is
+//! told to be wanted, the keys and the words of a choice among it, and the text of a reason are only tested, in `reason_tests`.
 //!
 //! # Memory and cost
 //!

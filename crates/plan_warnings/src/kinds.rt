@@ -12,7 +12,7 @@ pub enum WarningKind {
     /// A submission that is not illegal, and before which no shutdown stands, in a block that is made more than once and has a
     /// shutdown. It is refused from the second iteration on: `refuse K rejected`.
     RejectedAgain,
-    /// A cancel of a submission that is refused each time: it has no effect, `cancel K absent`.
+    /// A cancel of a submission that is refused each time: it has no effect, `cancel K none`.
     NothingToCancel,
     /// A `period`, or a `delay` of `fixed`, of 1 to 999 nanoseconds, of which no unit stands in the text.
     ShortPeriod,

@@ -56,7 +56,7 @@
 //! - Whatever comes, in each history of the calls of the plan: each call of a place that is told as `Illegal` is answered
 //!   `refuse K illegal` ([`illegal_places_are_refused`]), each of one that is told as `Rejected` `refuse K rejected`
 //!   ([`rejected_places_are_refused`]), as are those of one told as `RejectedAgain` from the second iteration on
-//!   ([`places_rejected_again_are_refused`]). Each cancel that is told as `NothingToCancel` is answered `cancel K absent`
+//!   ([`places_rejected_again_are_refused`]). Each cancel that is told as `NothingToCancel` is answered `cancel K none`
 //!   ([`places_with_nothing_to_cancel_have_no_effect`]).
 //! - The same of any calls, whether those of a plan or not: a submission that is illegal, or stands behind a shutdown, is refused, and
 //!   a cancel of its task has no effect ([`illegal_calls_are_refused`], [`calls_behind_shutdowns_are_rejected`],

@@ -43,7 +43,7 @@ Usage: sched <COMMAND>⏎
   migrate  Prints a plan of version 1, the older form, as one of version 2 to standard output
   draw     Prints a picture of a trace of a plan, as SVG, to standard output
   live     Answers events and calls on standard input as they come
-  lint     Says why a plan is refused, or the events or the trace that go with it
+  lint     Says why a plan is refused, or the events, the trace or the calls of a file
   -V, --version  Print version⏎
 'sched run --help' tells what a plan, an event and a trace look like
 'sched lint' why one is refused.
@@ -55,10 +55,12 @@ $ sched --version
 sched 0.1.0 (rattle-kit-13f logic␣
 
 $ sched lint --help
-Usage: sched lint [OPTIONS] <PLAN>⏎
+Usage: sched lint [OPTIONS] [PLAN]⏎
       --events <FILE>  The file of events that is looked at too⏎
       --trace <FILE>   The file of a trace that is looked at too, with --workers⏎
       --workers <N>    How many workers the trace has, 1 to 64⏎
+      --calls <FILE>   The file of calls and events
+      --strict         A warning is a fault: the exit status is 1⏎
   plan.toml:12: block 2, call 1, op = \"sched\": no such op; one of
   0  nothing is wrong: 'fine' was printed⏎
   1  something is wrong

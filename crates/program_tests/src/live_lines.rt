@@ -48,12 +48,12 @@ file version = 2⏎⏎[[block]]⏎⏎[[block.call]]⏎delay = 5⏎delay_unit = \
 $ sched live --workers 1 --plan calls.toml
 < start 0
 > 0 start 0 idle
-! sched: plan file not written
+! sched: plan file not written⏎sched: calls.toml: permission denied
 $ sched live --workers 1 --plan calls.toml
 with full file
 < start 0
 > 0 start 0 idle
-! sched: plan file not written
+! sched: plan file not written⏎sched: calls.toml: unsupported
 $ sched live --workers 1 --plan calls.toml
 < stop
 ! sched: event line 1

@@ -111,7 +111,7 @@ trace 0 submit 0 schedule due 5⏎5 clock⏎5 start 0 task 0 run 0 due 5⏎7 clo
 $ sched draw plan.toml trace.txt --workers 1
 with broken trace
 trace 0 submit 0 schedule due 5⏎5 clock
-! sched: trace file not read
+! sched: trace file not read⏎sched: trace.txt: unsupported
 $ sched draw plan.toml trace.txt --workers 1
 with broken trace
 plan version = 3
@@ -121,9 +121,9 @@ $ sched draw other.toml trace.txt --workers 1
 with broken trace
 plan version = 3
 trace 0 submit 0 schedule due 5⏎5 clock
-! sched: plan file not read
+! sched: plan file not read⏎sched: other.toml: entity not found
 $ sched draw plan.toml trace --workers=1
-! sched: trace file not read
+! sched: trace file not read⏎sched: trace: entity not found
 ";
 
 /// A trace that has no line is one, and its picture no bar and no mark.

@@ -18,7 +18,7 @@ $ sched run --workers=3 plan.toml
 $ sched run plan.toml --limit 2 --workers 1
 < start 0⏎start 0⏎start 0
 > 0 start 0 idle⏎0 start 0 idle
-! sched: full
+! sched: full⏎sched: at most 2 events are taken; --limit N takes N
 
 # TELLS_FAULTS_OF_THE_EVENTS_AND_OF_STANDARD_OUTPUT
 $ sched run plan.toml --workers 1
@@ -45,7 +45,7 @@ $ sched pool plan.toml --workers 1 --limit 4
 > 0 submit 0 schedule due 5⏎0 clock
 > 4 clock
 > 5 clock⏎5 start 0 task 0 run 0 due 5
-! sched: full
+! sched: full⏎sched: at most 4 events are taken; --limit N takes N
 
 # TELLS_FAULTS_OF_A_RUN_BY_A_POOL
 $ sched pool plan.toml --workers 1 --limit 4
@@ -53,7 +53,7 @@ $ sched pool plan.toml --workers 1 --limit 4
 ! sched: event line 2
 $ sched pool plan.toml --workers 1 --limit 4
 < clock 0⏎clock 1⏎clock 2⏎clock 3⏎clock 4
-! sched: full
+! sched: full⏎sched: at most 4 events are taken; --limit N takes N
 $ sched pool plan.toml --workers 1 --limit 4
 with closed output
 < clock 0
@@ -63,7 +63,7 @@ plan version = 3
 < start 0
 ! sched: plan: Version block 0 call 0
 $ sched pool other.toml --workers 2
-! sched: plan file not read
+! sched: plan file not read⏎sched: other.toml: entity not found
 
 # PRINTS_THE_CODE_OF_THE_PLAN
 $ sched code plan.toml
@@ -73,7 +73,7 @@ $ sched code plan.toml
 with closed output
 ! sched: write fault
 $ sched code other.toml
-! sched: plan file not read
+! sched: plan file not read⏎sched: other.toml: entity not found
 $ sched code plan.toml
 plan version = 3
 ! sched: plan: Version block 0 call 0
@@ -85,7 +85,7 @@ $ sched tasks plan.toml
 with closed output
 ! sched: write fault
 $ sched tasks other.toml
-! sched: plan file not read
+! sched: plan file not read⏎sched: other.toml: entity not found
 $ sched tasks plan.toml
 plan version = 3
 ! sched: plan: Version block 0 call 0
@@ -114,22 +114,22 @@ with closed output
 $ sched check plan.toml trace.txt --workers 1
 with broken trace
 trace 0 clock
-! sched: trace file not read
+! sched: trace file not read⏎sched: trace.txt: unsupported
 $ sched check plan.toml trace.txt --workers 1
 with broken trace
 plan version = 3
 trace 0 clock
 ! sched: plan: Version block 0 call 0
 $ sched check plan.toml trace --workers 1
-! sched: trace file not read
+! sched: trace file not read⏎sched: trace: entity not found
 
 # TELLS_FAULTS_OF_A_FILE_THAT_IS_TO_BE_MIGRATED
 $ sched migrate other.toml
-! sched: plan file not read
+! sched: plan file not read⏎sched: other.toml: entity not found
 $ sched migrate plan.toml
 with broken plan
 plan version = 1
-! sched: plan file not read
+! sched: plan file not read⏎sched: plan.toml: unsupported
 
 # MIGRATES_A_PLAN
 $ sched migrate plan.toml
@@ -154,9 +154,9 @@ $ sched run ÿ --workers 1
 $ sched run plan.toml --workers 1
 with broken plan
 plan version = 1
-! sched: plan file not read
+! sched: plan file not read⏎sched: plan.toml: unsupported
 $ sched run another.toml --workers 1
-! sched: plan file not read
+! sched: plan file not read⏎sched: another.toml: entity not found
 ";
 
 #[test]

@@ -21,6 +21,8 @@ pub use live::{run as run_live, schedule};
 pub use pictures::{draw, picture, place};
 pub use plans::{migrate, read_plan};
 pub use pools::run_pool;
-pub use reasons::{reason_of, reason_of_events, reason_of_trace};
+pub use reasons::{
+    reason_of, reason_of_events, reason_of_live_lines, reason_of_trace, warnings_of,
+};
 pub use runs::{run, run_and_check, run_in_memory, write_listing, write_tasks};
 pub use texts::{put_line, read_event, read_line, split_event, split_line, write_line};

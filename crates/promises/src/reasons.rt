@@ -1,5 +1,5 @@
 //! What those promise that tell why something is refused.
-ghost use Rattle.std.specs.Prelude.{◌≡◌, ◌⊎◌, None, Some, IfNone, IfSome, ◌≤◌, ◌≢◌, ◌↔◌, All, AllPairs, IfOk, IsErrOf, length, option_map};
+ghost use Rattle.std.specs.Prelude.{◌≡◌, ◌⊎◌, None, Some, IfNone, IfSome, ◌≤◌, ◌≢◌, ◌↔◌, All, AllPairs, IfOk, IsErrOf, length, map, option_map};
 ghost use Rattle.toml.specs.Data.{Members};
 ghost use Rattle.toml.specs.Parse.{parse_document};
 ghost use Rattle.plan_lines.specs.Lines.{IsLineOf};
@@ -10,6 +10,8 @@ ghost use Rattle.plan_reasons.specs.Standing.{IsAtKey, IsPlacedIn};
 ghost use Rattle.plan_reasons.specs.Told.{IsAtKeyOfKind};
 ghost use Rattle.plan_reasons.specs.declared.found.Found.TheVariants.{Nothing};
 ghost use Rattle.line_reasons.specs.Events.{AreEvents, IsFirstOther};
+ghost use Rattle.line_reasons.specs.LiveLines.{AreLiveLines, IsFirstNotLive};
+ghost use Rattle.plan_warnings.specs.Warnings.{warnings_told};
 ghost use Rattle.plan_compile.specs.PlanCalls.{calls_of_plan};
 ghost use Rattle.executor_model.specs.Counts.{IsWorkerCount};
 ghost use Rattle.trace_check.specs.Findings.{Breaks, Conforms};
@@ -19,7 +21,8 @@ ghost use Rattle.trace_reasons.specs.Standing.{CouldStand, AreConforming, IsFaul
 use line_reasons::EventsReason;
 use plan_read::{HeapAllocator, Plan};
 use plan_reasons::Reason;
-use std::alloc::Allocator;
+use plan_warnings::Warning;
+use std::alloc::{AllocError, Allocator};
 use trace_check::CheckError;
 use trace_reasons::TraceReason;
 
@@ -47,6 +50,28 @@ pub fn reason_of_events<A: Allocator + Copy>(alloc: A, text: &[u8]) -> Option<Ev
     ensures first { IfSome result (λ r. IsFirstOther text.now r.number r.line.now) }
 {
     line_reasons::reason_of_events(alloc, text)
+}
+
+/// [`line_reasons::reason_of_live_lines`].
+pub fn reason_of_live_lines<A: Allocator + Copy>(alloc: A, text: &[u8]) -> Option<EventsReason<'_>>
+    ensures fine { IfNone result (AreLiveLines text.now) }
+    ensures only { AreLiveLines text.now → result ≡ None }
+    ensures first { IfSome result (λ r. IsFirstNotLive text.now r.number r.line.now) }
+{
+    line_reasons::reason_of_live_lines(alloc, text)
+}
+
+/// [`plan_warnings::warnings_of`].
+pub fn warnings_of<A: HeapAllocator, B: Allocator>(
+    alloc: A,
+    plan: &Plan<B>,
+    text: &[u8],
+) -> Result<Vec<Warning, A>, AllocError>
+    ensures told { IfOk result (λ v. (tree : Members) → parse_document text.now ≡ Some tree
+        → map (λ w. w.odd) v.items ≡ warnings_told plan.now tree) }
+    ensures lines { IfOk result (λ v. All (λ w. IfSome w.line (IsLineOf text.now)) v.items) }
+{
+    plan_warnings::warnings_of(alloc, plan, text)
 }
 
 /// [`trace_reasons::reason_of_trace`].

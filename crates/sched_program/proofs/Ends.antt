@@ -51,6 +51,8 @@ pub end_lint : (arguments : List (List ℕ)) (asked : LintArguments) (answer : R
     → MatchResult (end_of answer) (λ s. (s ≡ 0) ⊎ (s ≡ 1)) (λ e. (status_of e ≡ 1) ⊎ (e ≡ LintOptions)) → IsEndOf arguments (end_of answer)
 end_lint arguments asked (Ok (answer.Status s)) asks (inl none) = inl none
 end_lint arguments asked (Ok (answer.Status s)) asks (inr one) = inr (one, inr (asks.0, asks.1))
+end_lint arguments asked (Ok (answer.Warned lines s)) asks (inl none) = inl none
+end_lint arguments asked (Ok (answer.Warned lines s)) asks (inr one) = inr (one, inr (asks.0, asks.1))
 end_lint arguments asked (Ok (answer.Refused line)) asks h = inr (refl, inr (asks.0, asks.1))
 end_lint arguments asked (Err e) asks (inl one) = inl one
 end_lint arguments asked (Err e) asks (inr options) = inr (options, (asks.0, asks.1))

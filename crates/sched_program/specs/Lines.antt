@@ -49,7 +49,7 @@ run_error_text x.Memory = codes "out of memory"
 -- why the program gives up
 abbrev pub reason_text : ProgramError → List ℕ
 reason_text f.Arguments = codes "command line not UTF-8"
-reason_text f.LintOptions = codes "--events stands alone, and --trace and --workers stand together"
+reason_text f.LintOptions = codes "lint takes PLAN, or it and --events, or it, --trace and --workers, or --calls alone"
 reason_text f.PlanFile = codes "plan file not read"
 reason_text f.PlanUnwritten = codes "plan file not written"
 reason_text f.TraceFile = codes "trace file not read"

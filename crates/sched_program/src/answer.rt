@@ -10,6 +10,8 @@ use command_work::{ProgramError, Refusal};
 pub enum Answer {
     /// With this exit status: 0, or 1 where a trace breaks, or 2 where the command line is not taken.
     Status(u8),
+    /// With this exit status, 0, or 1 where a warning is a fault: nothing is wrong, and these lines for standard error tell what is odd.
+    Warned(Vec<Refusal>, u8),
     /// With exit status 1: a file is refused, and this line for standard error says why.
     Refused(Refusal),
 }

@@ -1,6 +1,6 @@
 //! The program: its work over the command line, the files, standard input and standard output of the system.
 
-ghost use Rattle.std.specs.Prelude.{◌≡◌, ℕ, ◌≤◌, ◌↔◌, ◌⊎◌, IsTrue, Result, map, string_bytes, IfErr, IfOk};
+ghost use Rattle.std.specs.Prelude.{◌≡◌, ℕ, ◌≤◌, ◌↔◌, ◌⊎◌, IsTrue, Option, Result, map, string_bytes, IfErr, IfOk};
 ghost use Rattle.std.specs.Process.{exit_status};
 ghost use Rattle.clap.specs.Words.{kind_of};
 ghost use Rattle.command_work.specs.Errors.{IsOrMemory};
@@ -11,13 +11,17 @@ ghost use Rattle.command_work.specs.declared.error.ProgramError.TheVariants.{Arg
 
 use crate::answer::{Answer, in_status};
 use crate::error_line::tell;
+use crate::hints::Hints;
+use crate::noted::Noted;
 use crate::opening::open_source;
 use crate::serving::serve;
 use byte_ends::{Reading, Sink, Writing};
 use clap::Error;
 use clap::error::ErrorKind;
-use command_work::ProgramError;
+use command_line::{Asked, AskedAlone};
+use command_work::{ProgramError, Refusal};
 use sched_engine::RunError;
+use std::alloc::Global;
 use std::cell::Cell;
 use std::process::ExitCode;
 use std::rt::{Env, Files};
@@ -33,23 +37,52 @@ where
     T: Threads + Wait + Sync,
     F: Sink,
     ensures status { exit_status result ≤ 2 }
-    ensures told { (answer : Result Answer ProgramError)
+    ensures told { (answer : Result Answer ProgramError) × (hint : Option Refusal)
         × (exit_status result ≡ exit_status_of answer)
-        × IsTold answer (F.contents faults.old) (F.contents faults.new) (F.failed faults.old)
+        × IsTold answer hint (F.contents faults.old) (F.contents faults.new) (F.failed faults.old)
         (F.fruitless faults.old) (F.failed faults.new) (F.fruitless faults.new) }
 {
-    ExitCode::from(tell(faults, answer(rt, threads)))
+    let hints = Hints::new(rt.alloc());
+    let answer = answer(rt, threads, &hints);
+    let hint = hint_of(&answer, &hints);
+    ExitCode::from(tell(faults, answer, hint.as_ref()))
+}
+
+/// The hint that stands behind the line of an error: of a file that was not read or not written, or of a limit.
+fn hint_of(answer: &Result<Answer, ProgramError>, hints: &Hints) -> Option<Refusal> {
+    match answer {
+        Err(
+            ProgramError::PlanFile
+            | ProgramError::PlanUnwritten
+            | ProgramError::TraceFile
+            | ProgramError::Run(RunError::Full),
+        ) => hints.take(),
+        _ => None,
+    }
 }
 
 /// Does what the command line says. `Ok` is the exit status, 0, 1 or 2, or a refusal.
 fn answer<R: Env + Files + Input + Print + Eprint + AllocGlobal, T: Threads + Wait + Sync>(
     rt: &R,
     threads: &T,
+    hints: &Hints,
 ) -> Result<Answer, ProgramError>
     ensures status { IfOk (end_of result) (λ s. s ≤ 2) }
 {
     let arguments = arguments(rt)?;
-    answer_arguments(rt, threads, &arguments)
+    let answer = answer_arguments(rt, threads, &arguments, hints);
+    if let Err(ProgramError::Run(RunError::Full)) = &answer {
+        note_limit(rt.alloc(), &arguments, hints);
+    }
+    answer
+}
+
+/// Notes how many events are taken at most, where the arguments of a command line say so.
+fn note_limit(heap: Global, arguments: &[String], hints: &Hints) {
+    match Asked::parse(heap, arguments) {
+        Ok(Asked::Pool(run) | Asked::Alone(AskedAlone::Run(run))) => hints.note_limit(run.limit),
+        _ => {}
+    }
 }
 
 /// The arguments of the command line, the program's name first. `Err` where one is not UTF-8, or
@@ -66,11 +99,12 @@ fn arguments<R: Env + AllocGlobal>(rt: &R) -> Result<Vec<String>, ProgramError>
 /// Does what the arguments of a command line say, the program's name first, with the files of the system, standard input
 /// for the events and the calls, and standard output. No buffer stands between a run and the two, since the run reads and writes large
 /// pieces itself. `Ok` is the exit status: 0 where what they ask for was done or help was printed, 1 where a trace breaks,
-/// 2 where the program does not take them; or a refusal.
+/// 2 where the program does not take them; or a refusal. Faults of files are noted.
 fn answer_arguments<R: Files + Input + Print + Eprint + AllocGlobal, T: Threads + Wait + Sync>(
     rt: &R,
     threads: &T,
     arguments: &[String],
+    hints: &Hints,
 ) -> Result<Answer, ProgramError>
     ensures status { IfOk (end_of result) (λ s. s ≤ 2) }
     ensures refused { IsRefusal (map string_bytes arguments.now) (end_of result) }
@@ -83,8 +117,8 @@ fn answer_arguments<R: Files + Input + Print + Eprint + AllocGlobal, T: Threads 
         threads,
         rt.alloc(),
         arguments,
-        |path| open_source(rt, path, &is_left),
-        |path| fs::create(rt, path).map(Writing::new),
+        |path| Noted::open(rt.alloc(), path, open_source(rt, path, &is_left), hints),
+        |path| Noted::open(rt.alloc(), path, fs::create(rt, path).map(Writing::new), hints),
         &mut reader,
         &mut writer,
     ) {

@@ -1,15 +1,17 @@
-//! The line on standard error that tells why the program gives up.
+//! What stands on standard error: the line that tells why the program gives up, or those that tell what a lint finds.
 
-ghost use Rattle.std.specs.Prelude.{◌≡◌, ◌+◌, ◌≤◌, ◌++◌, length};
+ghost use Rattle.std.specs.Prelude.{◌≡◌, ◌+◌, ◌≤◌, ◌++◌, flat_map, length, option_map};
 ghost use Rattle.std.specs.Fmt.{decimal};
 ghost use Rattle.arrayvec.specs.ArrayString.{array_string_len};
 ghost use Rattle.sched_program.specs.Lines.{error_line, kind_name, plan_fault_text, reason_text, run_error_text};
-ghost use Rattle.sched_program.specs.Told.{IsTold, exit_status_of};
+ghost use Rattle.byte_ends.specs.Ends.{CountsTries, WritesText};
+ghost use Rattle.command_work.specs.RefusalTexts.{text_of};
+ghost use Rattle.sched_program.specs.Told.{IsTold, exit_status_of, hint_text};
 
 use crate::answer::Answer;
 use arrayvec::ArrayString;
 use byte_ends::{Sink, write_text};
-use command_work::ProgramError;
+use command_work::{ProgramError, Refusal};
 use itoa::Buffer;
 use plan_read::{PlanFault, PlanFaultKind};
 use sched_engine::RunError;
@@ -23,24 +25,61 @@ const LONGEST_LINE: usize = LONGEST_REASON + 8;
 /// Why the program gives up, in words.
 type Reason = ArrayString<LONGEST_REASON>;
 
-/// Tells an answer: the exit status that it is or that goes with it, and the line of a refusal or of an error by `faults`. Where these are
-/// at fault, the status alone tells it. No memory is taken.
-pub fn tell<W: Sink>(faults: &mut W, answer: Result<Answer, ProgramError>) -> u8
-    ensures told { IsTold answer (W.contents faults.old) (W.contents faults.new)
-        (W.failed faults.old) (W.fruitless faults.old) (W.failed faults.new)
-        (W.fruitless faults.new) }
+/// Tells an answer: the exit status that it is or that goes with it, and by `faults` the lines of warnings, that of a refusal, or that of an
+/// error, with the hint behind it, where there is one. Where these are at fault, the status alone tells it. No memory is taken.
+pub fn tell<W: Sink>(
+    faults: &mut W,
+    answer: Result<Answer, ProgramError>,
+    hint: Option<&Refusal>,
+) -> u8
+    ensures told { IsTold answer (option_map (λ h. h.now) hint) (W.contents faults.old)
+        (W.contents faults.new) (W.failed faults.old) (W.fruitless faults.old)
+        (W.failed faults.new) (W.fruitless faults.new) }
     ensures status { result ≡ exit_status_of answer }
 {
     match answer {
         Ok(Answer::Status(status)) => status,
+        Ok(Answer::Warned(warnings, status)) => {
+            let _ = write_lines(faults, &warnings);
+            status
+        }
         Ok(Answer::Refused(refusal)) => {
             let _ = write_text(faults, refusal.line());
             1
         }
         Err(error) => {
-            let _ = write_text(faults, line_of(error).as_str().as_bytes());
+            let _ = write_error(faults, error, hint);
             error.status()
         }
+    }
+}
+
+/// Writes lines, one behind the other. False where the sink is at fault: a front of them was written.
+fn write_lines<W: Sink>(faults: &mut W, lines: &[Refusal]) -> bool
+    ensures text { WritesText result (W.contents faults.old) (W.contents faults.new)
+        (flat_map text_of lines.now) }
+    ensures counts { CountsTries result (W.failed faults.old) (W.fruitless faults.old)
+        (W.failed faults.new) (W.fruitless faults.new) }
+{
+    for line in lines {
+        if !write_text(faults, line.line()) {
+            return false;
+        }
+    }
+    true
+}
+
+/// Writes the line of an error, and the hint behind it. False where the sink is at fault: a front of them was written.
+fn write_error<W: Sink>(faults: &mut W, error: ProgramError, hint: Option<&Refusal>) -> bool
+    ensures text { WritesText result (W.contents faults.old) (W.contents faults.new)
+        (error_line error ++ hint_text (option_map (λ h. h.now) hint)) }
+    ensures counts { CountsTries result (W.failed faults.old) (W.fruitless faults.old)
+        (W.failed faults.new) (W.fruitless faults.new) }
+{
+    let told = write_text(faults, line_of(error).as_str().as_bytes());
+    match hint {
+        Some(hint) => told && write_text(faults, hint.line()),
+        None => told,
     }
 }
 
@@ -62,7 +101,7 @@ fn reason_of(error: ProgramError) -> Reason
     match error {
         ProgramError::Arguments => in_words("command line not UTF-8"),
         ProgramError::LintOptions => {
-            in_words("--events stands alone, and --trace and --workers stand together")
+            in_words("lint takes PLAN, or it and --events, or it, --trace and --workers, or --calls alone")
         }
         ProgramError::PlanFile => in_words("plan file not read"),
         ProgramError::PlanUnwritten => in_words("plan file not written"),

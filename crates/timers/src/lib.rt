@@ -55,8 +55,9 @@
 //!
 //! # Memory and cost
 //!
-//! Memory is asked for by `new`, by the four submissions, where each slot holds a task, and by [`reserve`](Timers::reserve), and by
-//! no other call. Where it is refused, nothing has changed. Beside what the executor keeps of a task, a slot has 8 bytes of data.
+//! That memory was refused is told by `new`, by the four submissions, where each slot holds a task, and by [`reserve`](Timers::reserve),
+//! and by no other call; that no other one asks for memory is tested. Where it is refused, nothing has changed. Beside what the executor
+//! keeps of a task, a slot has 8 bytes of data.
 //! Where each slot is taken, a submission makes half as many more, and four. The data cost constant time in each call, but where slots
 //! are made; all else costs what the executor's calls do.
 //!

@@ -32,4 +32,8 @@ pub const TABLES: &str = "\
     p:8: block 1, call 1, at = 2: out of order; at most 1 ms, when the next iteration begins | at = 2 / at_unit = \"ms\"\n\
     p:8: block 1, call 1, at = 1500001: out of order; at most 1500000 ns, when the next iteration begins | at = 1500001\n\
     p:8: block 1, call 1, at = 1: out of order; at most 0 h, when the next iteration begins | at = 1 / at_unit = \"h\"\n\
+    fine | at = 1500000\n\
+    \n\
+    calls behind the next iteration of a block that has a moment | version = 2 / [[block]] / at = 7 / at_unit = \"ms\" / times = 2 / every = 1500 / every_unit = \"us\" / [[block.call]] / op = \"ask\" / \n\
+    p:10: block 1, call 1, at = 2: out of order; at most 1 ms, when the next iteration begins | at = 2 / at_unit = \"ms\"\n\
     fine | at = 1500000";

@@ -127,6 +127,21 @@ fn submit_all<A: Allocator>(
     Ok(())
 }
 
+/// How many tasks are submitted and run, one lot behind the other: from no slot on, and where slots are used again.
+const LOTS: &[u64] = &[1, 4, 5, 600, 1_500];
+
+#[test]
+fn no_want_of_memory_is_told_where_it_is_ample(rt: HostRuntime) -> Result<(), Fail> {
+    let mut timers = Timers::new(rt.alloc(), 1)?;
+    let mut now = 0u64;
+    for &tasks in LOTS {
+        submit_all(&rt, &mut timers, now, tasks)?;
+        now = now.wrapping_add(tasks);
+        assert!(rt; run_all(&rt, &mut timers, now)? == tasks as usize, "{tasks}");
+    }
+    Ok(())
+}
+
 #[test]
 fn data_are_told_of_each_task_that_is_ended(rt: HostRuntime) -> Result<(), Fail> {
     let mut timers = Timers::new(rt.alloc(), 1)?;
