@@ -45,10 +45,11 @@ class End:
         if len(line) <= LONGEST_EVENT + 1 and has_form(line, EVENT_FORMS):
             self.clock(line)
             return b""
-        words = line.split()
-        is_late = words[1:2] == [b"cancel"] and is_call(line) and int(words[2]) >= self.tasks
-        if not is_call(line) or is_late:
+        if not is_call(line):
             return b"sched: event line %d\n" % (self.lines + 1)
+        words = line.split()
+        if words[1] == b"cancel" and int(words[2]) >= self.tasks:
+            return b""
         moment = max(self.now, self.earliest)
         if moment > LONGEST:
             return b"sched: full\n"
@@ -71,10 +72,15 @@ def span(choose, least):
     return choose.choice((least, LONGEST, LONGEST - 1, LONGEST + choose.choice((0, 0, 1))))
 
 
+def some_task(choose, tasks):
+    """A task, where so many were submitted, mostly one of these."""
+    return choose.randrange(max(tasks, 1)) if choose.random() < 0.9 else choose.choice((tasks, tasks + 1, 2**32 - 1))
+
+
 def some_call(choose, tasks):
     """The words of a call, where so many tasks were submitted."""
     kind = choose.choice(("schedule",) * 6 + ("execute", "rate", "rate", "fixed", "fixed", "ask") * 2
-                         + ("cancel",) * (5 if tasks else 0) + ("policy",) * 2 + ("shutdown", "shutdown_now"))
+                         + ("cancel",) * 5 + ("policy",) * 2 + ("shutdown", "shutdown_now"))
     if kind in ("shutdown", "shutdown_now") and choose.random() < 0.6:
         kind = "ask"
     if kind == "schedule":
@@ -82,7 +88,7 @@ def some_call(choose, tasks):
     if kind in ("rate", "fixed"):
         return f"{kind} {span(choose, 0)} {span(choose, 1)}"
     if kind == "cancel":
-        return f"{kind} {choose.randrange(tasks)}"
+        return f"{kind} {some_task(choose, tasks)}"
     if kind == "policy":
         return f"{kind} {choose.choice(('continue', 'execute', 'remove'))} {choose.choice(('true', 'false'))}"
     return kind
@@ -106,6 +112,5 @@ def some_lines(choose, workers):
             worker = busy.pop(choose.randrange(len(busy))) if busy else choose.randrange(workers)
             lines.append(f"finish {worker} ok {choose.randrange(9)}\n" if choose.random() < 0.9 else f"finish {worker} fail 7\n")
         else:
-            task = choose.randrange(max(tasks, 1)) if choose.random() < 0.9 else choose.choice((tasks, tasks + 1, 2**32 - 1))
-            lines.append(f"cancel {task}\n")
+            lines.append(f"cancel {some_task(choose, tasks)}\n")
     return "".join(lines).encode()

@@ -1,15 +1,13 @@
 -- Ending: how a live run begins and ends, and that it does.
-use Rattle.std.proofs.Common.{◌≡◌, ℕ, zero, suc, ◌+◌, ◌-◌, ◌*◌, ◌<◌, ◌≤◌, List, [], ◌∷◌, ◌++◌, take, length, Option, Result, Ok, Err, MatchResult, inl, inr, ◌⊎◌, refl, ap, ◌∙◌, sym, subst, arith, append_assoc, append-nil, length-append}
+use Rattle.std.proofs.Common.{◌≡◌, ℕ, zero, suc, ◌+◌, ◌-◌, ◌*◌, ◌<◌, ◌≤◌, List, [], ◌++◌, take, length, Option, Result, Ok, Err, MatchResult, inl, inr, refl, ap, ◌∙◌, sym, subst, arith, append_assoc, append-nil, length-append}
 use Rattle.std.specs.Io.KnownBytes.{Consumes, Appends, Keeps, IsAtEnd}
 use Rattle.executor_model.specs.Counts.{IsWorkerCount}
 use Rattle.trace_text.specs.Spelling.{IsLine, event_line, FitsEvent}
 use Rattle.trace_text.specs.Reading.{IsPart, IsUnread, most_event_bytes}
-use Rattle.trace_text.proofs.EventTexts.{event_ended}
 use Rattle.trace_text.proofs.Fronts.{some_bytes, unread_part, unread_whatever_follows}
 use Rattle.call_text.specs.declared.live.LiveFront.TheVariants as front
 use Rattle.call_text.specs.Spelling.{call_line, FitsCall}
 use Rattle.call_text.specs.Reading.{IsLiveFront}
-use Rattle.call_text.proofs.CallEnds.{call_ended}
 use Rattle.call_text.proofs.LiveFronts.{no_call_follows, no_call_in_part}
 use Rattle.call_journal.specs.Journals.{JournalView}
 use Rattle.live_core.specs.Lives.{LiveView}
@@ -27,18 +25,13 @@ use Rattle.live_engine.specs.declared.engine.Turn.{Turn}
 use Rattle.live_engine.specs.declared.engine.Turn.TheVariants as t
 use Rattle.live_engine.specs.declared.report.LiveReport.{LiveReport}
 use Rattle.live_engine.specs.LiveLines.{LiveHistory, FitsLive, input_of, live_history, live_line, trace_length, trace_of}
-use Rattle.live_engine.specs.LiveRuns.{BeginsBeyond, BeginsWanting, BeginsWith, BeginsWithBarred, BeginsWithNone, IsNoLine, LiveEnds, Ran, Runs, Taken, Writes}
+use Rattle.live_engine.specs.LiveRuns.{BeginsBeyond, BeginsWanting, BeginsWith, IsNoLine, LiveEnds, Ran, Runs, Taken, Writes}
 use Rattle.live_engine.specs.own.LiveTurns.{Done, IsBetweenTurns, IsCut, Opens, Progress, Setting, Turns}
 use Rattle.live_engine.proofs.Steps.{allowed}
 use Rattle.live_engine.proofs.Notings.{notes_none}
 use Rattle.live_engine.proofs.Going.{filled}
 
 -- ---- lines
-
--- a line has a byte at least
-pub some_line : (line : LiveLine) → FitsLive line → 0 < length (live_line line)
-some_line (l.Event event) fits = let end = event_ended event fits in omega (arith, ap length end.is, length-append end.front (10 ∷ []))
-some_line (l.Call call) fits = let end = call_ended call fits in omega (arith, ap length end.is, length-append end.front (10 ∷ []))
 
 -- bytes that begin with no line of an event and none of a call
 unread : (bytes : List ℕ) → IsUnread event_line FitsEvent bytes → IsUnread call_line FitsCall bytes → IsUnread live_line FitsLive bytes
@@ -53,10 +46,6 @@ begins_on IsSo held more begins = record {
   read = (begins.read.0, ap (λ l. l ++ more) begins.read.1 ∙ append_assoc (live_line begins.line) begins.rest more);
   so = begins.so;
 }
-
--- and has a byte at least
-begins_some : (IsSo : LiveLine → Type 0) (held : List ℕ) → BeginsWith held IsSo → 0 < length held
-begins_some IsSo held begins = omega (arith, some_line begins.line begins.read.0, ap length begins.read.1, length-append (live_line begins.line) begins.rest)
 
 -- ---- what was taken
 
@@ -138,22 +127,17 @@ full run at lines done none near begins =
     (λ more. begins_on _ at.held more begins) (all_written run at lines (λ _ _. Unit {0}) done none tt)
 
 -- what follows is no line
-none_follows : (so_far : LiveHistory) (held more : List ℕ) → IsLiveFront front.Refused held ⊎ BeginsWithBarred so_far held → BeginsWithNone so_far (held ++ more) × (0 < length (held ++ more))
-none_follows so_far held more (inl stop) = (
-  inl (unread (held ++ more) (unread_whatever_follows held stop.0 stop.2 more) (no_call_follows held stop.1 stop.2 more)),
+none_follows : (held more : List ℕ) → IsLiveFront front.Refused held → IsUnread live_line FitsLive (held ++ more) × (0 < length (held ++ more))
+none_follows held more stop = (
+  unread (held ++ more) (unread_whatever_follows held stop.0 stop.2 more) (no_call_follows held stop.1 stop.2 more),
   omega (arith, some_bytes held stop.2, length-append held more),
 )
-none_follows so_far held more (inr begins) = (inr (begins_on _ held more begins), omega (arith, begins_some _ held begins, length-append held more))
 
-no_line : (so_far : LiveHistory) (left : Option (List ℕ)) (held : List ℕ) → IsLiveFront front.Refused held ⊎ BeginsWithBarred so_far held → IsNoLine so_far left held
-no_line so_far left held (inl stop) = inl stop
-no_line so_far left held (inr begins) = inr (inr begins)
-
-pub refused : (run : Setting) (at : Progress) (lines : List LiveLine) (n : ℕ) → Done run at lines → at.text ≡ [] → length at.held ≤ piece → IsLiveFront front.Refused at.held ⊎ BeginsWithBarred (live_history run.workers lines) at.held → n ≡ at.counts.read + 1 →
+pub refused : (run : Setting) (at : Progress) (lines : List LiveLine) (n : ℕ) → Done run at lines → at.text ≡ [] → length at.held ≤ piece → IsLiveFront front.Refused at.held → n ≡ at.counts.read + 1 →
     Runs (Err (s.EventLine n)) run.workers run.first at.ends
 refused run at lines n done none near stop is =
-    taken_so_far run at lines (λ so_far. IsNoLine so_far at.ends.left) (λ so_far rest. BeginsWithNone so_far rest × (0 < length rest)) (Writes run.first at.ends (λ lines _. n ≡ length lines + 1)) done near
-    (no_line (live_history run.workers lines) at.ends.left at.held stop) (λ more. none_follows (live_history run.workers lines) at.held more stop)
+    taken_so_far run at lines (λ _. IsNoLine at.ends.left) (λ _ rest. IsUnread live_line FitsLive rest × (0 < length rest)) (Writes run.first at.ends (λ lines _. n ≡ length lines + 1)) done near
+    (inl stop) (λ more. none_follows at.held more stop)
     (all_written run at lines (λ lines _. n ≡ length lines + 1) done none (omega (arith, is, done.taken)))
 
 -- the end of the input, with nothing held
@@ -169,8 +153,8 @@ ended run at lines report done blank end none is =
 pub cut_off : (run : Setting) (at : Progress) (lines : List LiveLine) (n : ℕ) → Done run at lines → at.text ≡ [] → IsAtEnd at.ends.left → IsPart at.held → 0 < length at.held → n ≡ at.counts.read + 1 →
     Runs (Err (s.EventLine n)) run.workers run.first at.ends
 cut_off run at lines n done none end part some is =
-    taken_at_end run at lines (λ so_far. IsNoLine so_far at.ends.left) (λ so_far rest. BeginsWithNone so_far rest × (0 < length rest)) (Writes run.first at.ends (λ lines _. n ≡ length lines + 1)) done end
-    (omega (arith, part.1)) (inr (inl (part, some, end))) (inl (unread at.held (unread_part at.held part.0) (no_call_in_part at.held part.0)), some)
+    taken_at_end run at lines (λ _. IsNoLine at.ends.left) (λ _ rest. IsUnread live_line FitsLive rest × (0 < length rest)) (Writes run.first at.ends (λ lines _. n ≡ length lines + 1)) done end
+    (omega (arith, part.1)) (inr (part, some, end)) (unread at.held (unread_part at.held part.0) (no_call_in_part at.held part.0), some)
     (all_written run at lines (λ lines _. n ≡ length lines + 1) done none (omega (arith, is, done.taken)))
 
 -- a fault of the reader

@@ -1,5 +1,5 @@
 -- Going: what a read, a line that is taken, and a write make of a live run.
-use Rattle.std.proofs.Common.{◌≡◌, ℕ, ◌+◌, ◌-◌, ◌≤◌, inl, inr, List, [], ◌∷◌, ◌++◌, take, drop, length, Option, Some, None, ap, ◌∙◌, sym, subst, arith, append_assoc, append-nil, length-append}
+use Rattle.std.proofs.Common.{◌≡◌, ℕ, ◌+◌, ◌-◌, ◌≤◌, List, [], ◌∷◌, ◌++◌, take, drop, length, Option, Some, None, ap, ◌∙◌, sym, subst, arith, append_assoc, append-nil, length-append}
 use Rattle.std.specs.Io.KnownBytes.{Consumes, Appends, prepend_known}
 use Rattle.executor_model.specs.declared.Line.{Line}
 use Rattle.executor_model.specs.Flows.{lines_of}
@@ -16,11 +16,11 @@ use Rattle.live_engine.specs.declared.stops.PieceEnd.TheVariants as e
 use Rattle.trace_text.specs.Reading.{IsRead}
 use Rattle.std.proofs.Math.Seq.{drop-append_seam}
 use Rattle.std.proofs.lemmas.List.{drop-drop}
-use Rattle.live_engine.specs.LiveLines.{FitsLive, MayCome, live_history, live_line, input_of, trace_of}
+use Rattle.live_engine.specs.LiveLines.{FitsLive, MayCome, live_history, live_line, input_of, meant_in, trace_of}
 use Rattle.live_engine.specs.LiveRuns.{made_calls}
 use Rattle.live_engine.specs.own.LiveSteps.{Answers, IsAt, IsNotTaken}
 use Rattle.live_engine.specs.own.LiveTurns.{Done, DoneAt, IsCut, IsFrontEnd, IsPieceEnd, Progress, Setting}
-use Rattle.live_engine.proofs.Steps.{allowed}
+use Rattle.live_engine.proofs.Steps.{allowed, has_room_meant, takes_meant}
 use Rattle.live_engine.proofs.Notings.{notes_line, notes_room}
 
 -- a text at the front of the bytes that are held was done
@@ -58,10 +58,10 @@ longer : (run : Setting) (at : Progress) (old new : LiveView) (line : LiveLine) 
     Answers old new line answer at.counts counts at.ends.journal journal → at.held ≡ live_line line ++ rest → Longer run at new line lines answer rest
 longer run at old new line lines answer rest counts journal d a front =
     let so_far = live_history run.workers lines in
-    let after = a.takes run.workers so_far d.stands in
+    let after = takes_meant old new line a.reply a.takes run.workers so_far d.stands in
     let all = after.longer.lines ∙ ap (λ l. lines_of so_far.calls so_far.past ++ l) (sym a.given) in
     record {
-      come = (d.done.come, a.fits, after.may, a.room run.workers so_far d.stands d.done.counted);
+      come = (d.done.come, a.fits, has_room_meant run.workers old so_far line d.stands (a.room run.workers so_far d.stands d.done.counted));
       stands = after.longer.at;
       read = took_front run.first.left at.ends.left at.held rest (input_of lines) (live_line line) d.done.read front;
       says = ap lines_text all ∙ lines_text-append (lines_of so_far.calls so_far.past) answer;
@@ -159,14 +159,15 @@ unnoted run at lines counts journal done same room = record {
 -- no line stands in front
 pub front_end : (end : PieceEnd) (workers : ℕ) (m : LiveView) (lines : List LiveLine) (rest : List ℕ) → IsFrontEnd end rest → IsAt workers m (live_history workers lines) → IsPieceEnd end workers m lines rest
 front_end e.Part workers m lines rest stop at = (stop, at)
-front_end e.Refused workers m lines rest stop at = inl stop
+front_end e.Refused workers m lines rest stop at = stop
 front_end e.Full workers m lines rest stop at = absurd stop
 front_end e.Memory workers m lines rest stop at = absurd stop
 
 -- one does, and is not taken
-pub line_end : (end : PieceEnd) (workers : ℕ) (m : LiveView) (lines : List LiveLine) (rest behind : List ℕ) (line : LiveLine) → IsRead live_line FitsLive rest line behind → IsNotTaken end workers (live_history workers lines) line → IsPieceEnd end workers m lines rest
+pub line_end : (end : PieceEnd) (workers : ℕ) (m : LiveView) (lines : List LiveLine) (rest behind : List ℕ) (line : LiveLine) → IsRead live_line FitsLive rest line behind →
+    IsNotTaken end workers (live_history workers lines) (meant_in (live_history workers lines) line) → IsPieceEnd end workers m lines rest
 line_end e.Part workers m lines rest behind line read stop = absurd stop
-line_end e.Refused workers m lines rest behind line read stop = inr (record { line = line; rest = behind; read = read; so = stop })
+line_end e.Refused workers m lines rest behind line read stop = absurd stop
 line_end e.Full workers m lines rest behind line read stop = record { line = line; rest = behind; read = read; so = stop }
 line_end e.Memory workers m lines rest behind line read stop = record { line = line; rest = behind; read = read; so = stop }
 

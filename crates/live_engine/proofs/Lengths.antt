@@ -21,7 +21,7 @@ use Rattle.live_engine.specs.declared.live_line.LiveLine.{LiveLine}
 use Rattle.live_engine.specs.declared.live_line.LiveLine.TheVariants as l
 use Rattle.live_engine.specs.declared.stops.PieceEnd.TheVariants as e
 use Rattle.call_journal.specs.MadeCalls.{code_of}
-use Rattle.live_engine.specs.LiveLines.{LiveHistory, IsBeyond, IsCallLine, MayComeNext, after_line, most_lines, planned_of, trace_length}
+use Rattle.live_engine.specs.LiveLines.{LiveHistory, IsBeyond, IsCallLine, after_meant, most_lines, planned_of, trace_length}
 use Rattle.live_engine.specs.own.LiveSteps.{IsAt, IsNotTaken, Refuses, TakesLine}
 use Rattle.live_engine.proofs.Steps.{behind_all}
 
@@ -46,7 +46,7 @@ lines_whatever calls more (x ∷ past) =
 
 -- a line that is taken adds those of its reply
 taken_adds : (old new : LiveView) (line : LiveLine) (r : Reply) → TakesLine old new line r → (workers : ℕ) (so_far : LiveHistory) → IsAt workers old so_far →
-    trace_length (after_line workers so_far line) ≡ trace_length so_far + (length r.ends + 1)
+    trace_length (after_meant workers so_far line) ≡ trace_length so_far + (length r.ends + 1)
 taken_adds old new line r takes workers so_far at =
     let front = lines_of so_far.calls so_far.past in
     let more = lines_at new.table.moment r in
@@ -68,7 +68,7 @@ submits_no_end calls v number call.Ask is = absurd (false≢true is)
 
 -- so it adds one line
 pub submission_adds : (workers : ℕ) (so_far : LiveHistory) (asked : CallLine) → made (happenings so_far.past) ≡ length so_far.calls → submits_task (planned_of so_far asked).1 ≡ true →
-    trace_length (after_line workers so_far (l.Call asked)) ≡ trace_length so_far + 1
+    trace_length (after_meant workers so_far (l.Call asked)) ≡ trace_length so_far + 1
 submission_adds workers so_far asked all is =
     let p = planned_of so_far asked in
     let calls = so_far.calls ++ p ∷ [] in
@@ -96,7 +96,7 @@ pub wants_memory : (old new : LiveView) (line : LiveLine) (r : Reply) → IsCall
 wants_memory old new line r calls takes none workers so_far at =
     let after = takes workers so_far at in
     let adds = taken_adds old new line r takes workers so_far at in
-    (calls, after.may, after.within, omega (arith, adds, ap length none))
+    (calls, after.within, omega (arith, adds, ap length none))
 
 ends_many : (given : Answer) (ended : List TaskRef) → length (ending given ended).ends ≡ length ended
 ends_many given ended = length-map ended (λ (r : TaskRef). r.number)
@@ -106,7 +106,7 @@ pub no_room : (old new : LiveView) (line : LiveLine) (given : Answer) (written :
     (workers : ℕ) (so_far : LiveHistory) → IsAt workers old so_far → written ≡ trace_length so_far → IsNotTaken e.Full workers so_far line
 no_room old new line given written takes many workers so_far at counted =
     let adds = taken_adds old new line (ending given new.ended) takes workers so_far at in
-    ((takes workers so_far at).may, inr (omega (arith, adds, many, counted, ends_many given new.ended)))
+    inr (omega (arith, adds, many, counted, ends_many given new.ended))
 
 neither : (A B : Type 0) → (A → ⊥) → (B → ⊥) → A ⊎ B → ⊥
 neither A B not_a not_b (inl x) = not_a x
@@ -114,11 +114,10 @@ neither A B not_a not_b (inr y) = not_b y
 
 -- or it has
 pub has_room : (old new : LiveView) (line : LiveLine) (given : Answer) (written : ℕ) → TakesLine old new line (ending given new.ended) → length new.ended < most_lines - written →
-    (workers : ℕ) (so_far : LiveHistory) → IsAt workers old so_far → written ≡ trace_length so_far → MayComeNext so_far line × (IsBeyond workers so_far line → ⊥)
+    (workers : ℕ) (so_far : LiveHistory) → IsAt workers old so_far → written ≡ trace_length so_far → IsBeyond workers so_far line → ⊥
 has_room old new line given written takes few workers so_far at counted =
-    let after = takes workers so_far at in
     let adds = taken_adds old new line (ending given new.ended) takes workers so_far at in
-    (after.may, neither _ _ after.within (λ many. omega (arith, adds, many, few, counted, ends_many given new.ended)))
+    neither _ _ (takes workers so_far at).within (λ many. omega (arith, adds, many, few, counted, ends_many given new.ended))
 
 -- a line that ended tasks by a sweep makes a call
 pub ends_some : (line : LiveLine) (ended : List TaskRef) → (ended ≡ []) ⊎ IsCallLine line → (ended ≡ [] → ⊥) → IsCallLine line
@@ -129,5 +128,4 @@ ends_some line ended (inr calls) some = calls
 pub some_room : (old new : LiveView) (line : LiveLine) (given : Answer) (written : ℕ) → IsCallLine line → TakesLine old new line (ending given new.ended) → length new.ended < most_lines - written →
     (workers : ℕ) (so_far : LiveHistory) → IsAt workers old so_far → written ≡ trace_length so_far → IsNotTaken e.Memory workers so_far line
 some_room old new line given written calls takes few workers so_far at counted =
-    let room = has_room old new line given written takes few workers so_far at counted in
-    (calls, room.0, room.1)
+    (calls, has_room old new line given written takes few workers so_far at counted)

@@ -11,30 +11,34 @@ use Rattle.call_journal.proofs.NotedCalls.{Keeps, keeps_none, keeps_noted, kept_
 use Rattle.live_engine.specs.declared.live_line.LiveLine.{LiveLine}
 use Rattle.live_engine.specs.declared.live_line.LiveLine.TheVariants as l
 use Rattle.live_engine.specs.declared.report.LiveReport.{LiveReport}
-use Rattle.live_engine.specs.LiveLines.{LiveHistory, MayCome, live_history, next_moment}
-use Rattle.live_engine.specs.LiveRuns.{LiveEnds, Ran, Taken, all_noted, made_calls}
+use Rattle.live_engine.specs.LiveLines.{FitsLive, LiveHistory, MayCome, after_meant, live_history, meant_in, next_moment}
+use Rattle.live_engine.specs.LiveRuns.{LiveEnds, Ran, Taken, all_noted, made_by, made_calls}
+use Rattle.live_engine.proofs.Steps.{fits_meant}
 
--- some calls that fit are those of the history of some lines, and a journal keeps the first of them
-record HasNoted (workers : ℕ) (old : JournalView) (lines : List LiveLine) : Type 0 where
+-- some calls that fit are those of an executor, and a journal in which some were noted keeps the first of them
+record HasNoted (old : JournalView) (noted : List MadeCall) (calls : List Planned) : Type 0 where
   all : List MadeCall
-  keeps : Keeps (all_noted old (made_calls workers lines)) all
+  keeps : Keeps (all_noted old noted) all
   fit : AllFit all
-  same : executor_calls all ≡ (live_history workers lines).calls
+  same : executor_calls all ≡ calls
 
-has_noted : (workers : ℕ) (old : JournalView) (lines : List LiveLine) → old.calls ≡ [] → MayCome workers lines → HasNoted workers old lines
-has_noted workers old [] none may = record { all = []; keeps = keeps_none old none; fit = tt; same = refl }
-has_noted workers old (l.Event event ∷ before) none may =
-    let so_far = has_noted workers old before none may.0 in
-    record { all = so_far.all; keeps = so_far.keeps; fit = so_far.fit; same = so_far.same }
-has_noted workers old (l.Call call ∷ before) none may =
-    let so_far = has_noted workers old before none may.0 in
-    let next : MadeCall = record { moment = next_moment (live_history workers before); call = call } in
+-- one line more, which is meant so
+has_noted_one : (workers : ℕ) (old : JournalView) (noted : List MadeCall) (so_far : LiveHistory) (line : LiveLine) → FitsLive line → HasNoted old noted so_far.calls → HasNoted old (made_by so_far line ++ noted) (after_meant workers so_far line).calls
+has_noted_one workers old noted so_far (l.Event event) fits has = record { all = has.all; keeps = has.keeps; fit = has.fit; same = has.same }
+has_noted_one workers old noted so_far (l.Call call) fits has =
+    let next : MadeCall = record { moment = next_moment so_far; call = call } in
     record {
-      all = so_far.all ++ next ∷ [];
-      keeps = keeps_noted (all_noted old (made_calls workers before)) so_far.all next so_far.keeps;
-      fit = fit_more so_far.all next so_far.fit (may.1, tt);
-      same = executor_calls-more so_far.all next ∙ ap (λ (calls : List Planned). calls ++ (next.moment, code_of (task_count calls) call) ∷ []) so_far.same;
+      all = has.all ++ next ∷ [];
+      keeps = keeps_noted (all_noted old noted) has.all next has.keeps;
+      fit = fit_more has.all next has.fit (fits, tt);
+      same = executor_calls-more has.all next ∙ ap (λ (calls : List Planned). calls ++ (next.moment, code_of (task_count calls) call) ∷ []) has.same;
     }
+
+has_noted : (workers : ℕ) (old : JournalView) (lines : List LiveLine) → old.calls ≡ [] → MayCome workers lines → HasNoted old (made_calls workers lines) (live_history workers lines).calls
+has_noted workers old [] none may = record { all = []; keeps = keeps_none old none; fit = tt; same = refl }
+has_noted workers old (line ∷ before) none may =
+    let so_far = live_history workers before in
+    has_noted_one workers old (made_calls workers before) so_far (meant_in so_far line) (fits_meant (task_count so_far.calls) line may.1) (has_noted workers old before none may.0)
 
 -- what a run took of its input
 taken_may : {workers : ℕ} {input left : Option (List ℕ)} {old new : JournalView} {IsAhead IsRest : LiveHistory → List ℕ → Type 0} {Gives : List LiveLine → LiveHistory → Type 0}

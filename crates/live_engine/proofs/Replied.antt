@@ -30,7 +30,7 @@ use Rattle.live_engine.specs.declared.live_line.LiveLine.TheVariants as l
 use Rattle.live_engine.specs.declared.stops.PieceEnd.{PieceEnd}
 use Rattle.live_engine.specs.declared.stops.PieceEnd.TheVariants as e
 use Rattle.call_journal.specs.MadeCalls.{code_of}
-use Rattle.live_engine.specs.LiveLines.{IsCallLine, IsOverLimit, LiveHistory, MayComeNext, happening_in, most_numbers}
+use Rattle.live_engine.specs.LiveLines.{IsCallLine, IsOverLimit, LiveHistory, happening_in, most_numbers}
 use Rattle.live_engine.specs.own.LiveSteps.{IsAt, Refuses, TakesLine, stop_of}
 use Rattle.live_engine.proofs.Steps.{IsGiven, cancel_given, cancel_none, next_is, run_begun, takes_call, takes_event, within_call, within_no_start, within_start}
 use Rattle.live_engine.proofs.Lengths.{submission_adds, wants_memory}
@@ -52,37 +52,31 @@ pub call_ending : (old new : LiveView) (asked : CallLine) (answer : Answer) (num
     moment_of_call old 0 ≤ longest → IsGiven old.count asked → TakesLine old new (l.Call asked) (ending answer new.ended)
 call_ending old new asked answer numbers calls stays near given = takes_call old new asked (ending answer new.ended) calls stays.workers near given
 
--- it may come where so many numbers were given out
-abbrev pub MayBeAsked : ℕ → CallLine → Type 0
-MayBeAsked count asked = (so_far : LiveHistory) → task_count so_far.calls ≡ count → MayComeNext so_far (l.Call asked)
-
 -- its moment would be too late
-too_late : (m : LiveView) (asked : CallLine) → longest < moment_of_call m 0 → MayBeAsked m.count asked → Refuses e.Full m (l.Call asked)
-too_late m asked late may workers so_far at = (may so_far at.stands.count, inl (subst (λ n. longest < n) (next_is workers m so_far at) late))
+too_late : (m : LiveView) (asked : CallLine) → longest < moment_of_call m 0 → Refuses e.Full m (l.Call asked)
+too_late m asked late workers so_far at = inl (subst (λ n. longest < n) (next_is workers m so_far at) late)
 
--- what is known of a line that submits a task: it may come at any time, and needs but a number
+-- what is known of a line that submits a task: it needs but a number
 pub record IsSubmission (asked : CallLine) : Type 0 where
   pub submits : (k : ℕ) → submits_task (code_of k asked) ≡ true
-  pub may : (count : ℕ) → MayBeAsked count asked
   pub given : (count : ℕ) → count < most_numbers → IsGiven count asked
 
 pub is_schedule : (delay : ℕ) → IsSubmission (call.Schedule delay)
-is_schedule delay = record { submits = λ k. refl; may = λ count so_far same. tt; given = λ count few. few }
+is_schedule delay = record { submits = λ k. refl; given = λ count few. few }
 
 pub is_execute : IsSubmission call.Execute
-is_execute = record { submits = λ k. refl; may = λ count so_far same. tt; given = λ count few. few }
+is_execute = record { submits = λ k. refl; given = λ count few. few }
 
 pub is_rate : (first period : ℕ) → IsSubmission (call.Rate first period)
-is_rate first period = record { submits = λ k. refl; may = λ count so_far same. tt; given = λ count few. few }
+is_rate first period = record { submits = λ k. refl; given = λ count few. few }
 
 pub is_fixed : (first delay : ℕ) → IsSubmission (call.Fixed first delay)
-is_fixed first delay = record { submits = λ k. refl; may = λ count so_far same. tt; given = λ count few. few }
+is_fixed first delay = record { submits = λ k. refl; given = λ count few. few }
 
 -- memory is wanting for one
 no_slot : (m : LiveView) (asked : CallLine) → IsSubmission asked → moment_of_call m 0 ≤ longest → m.count < most_numbers → Refuses e.Memory m (l.Call asked)
 no_slot m asked is near few workers so_far at = (
   tt,
-  is.may m.count so_far at.stands.count,
   within_call workers m so_far asked at near (is.given m.count few),
   submission_adds workers so_far asked at.stands.made (is.submits (task_count so_far.calls)),
 )
@@ -90,7 +84,7 @@ no_slot m asked is near few workers so_far at = (
 -- why a submission is not taken
 pub refuses_submission : (m : LiveView) (asked : CallLine) (timing : Timing) (delay : ℕ) (error : CallError) → IsSubmission asked → IsSubmitError m 0 timing delay error → IsShort timing delay → m.count < most_numbers → Refuses (stop_of error) m (l.Call asked)
 refuses_submission m asked timing delay ce.TooLong line is short few = absurd (is short)
-refuses_submission m asked timing delay ce.TooFar line is short few = too_late m asked is.1 (line.may m.count)
+refuses_submission m asked timing delay ce.TooFar line is short few = too_late m asked is.1
 refuses_submission m asked timing delay ce.Full line is short few = absurd (omega (arith, is.2, few))
 refuses_submission m asked timing delay ce.Memory line is short few = no_slot m asked line is.1 few
 refuses_submission m asked timing delay ce.Illegal line is short few = absurd is
@@ -105,23 +99,23 @@ refuses_periodic span m asked timing delay ce.Full line is some short few = refu
 refuses_periodic span m asked timing delay ce.Memory line is some short few = refuses_submission m asked timing delay ce.Memory line is.1 short few
 refuses_periodic span m asked timing delay ce.NoTask line is some short few = refuses_submission m asked timing delay ce.NoTask line is.1 short few
 
--- why a cancel by a call is not taken
-pub refuses_cancel : (m : LiveView) (task : ℕ) (error : CallError) → IsCancelError m 0 task error → Refuses (stop_of error) m (l.Call (call.Cancel task))
-refuses_cancel m task ce.NoTask is = λ workers so_far at low. omega (arith, is, low, at.stands.count)
-refuses_cancel m task ce.TooFar is = too_late m (call.Cancel task) is.1 (λ so_far same. omega (arith, is.0, same))
-refuses_cancel m task ce.TooLong is = absurd is
-refuses_cancel m task ce.Full is = absurd is
-refuses_cancel m task ce.Memory is = absurd is
-refuses_cancel m task ce.Illegal is = absurd is
+-- why a cancel by a call, of a number that was given out, is not taken
+pub refuses_cancel : (m : LiveView) (task : ℕ) (error : CallError) → task < m.count → IsCancelError m 0 task error → Refuses (stop_of error) m (l.Call (call.Cancel task))
+refuses_cancel m task ce.NoTask given is = absurd (omega (arith, is, given))
+refuses_cancel m task ce.TooFar given is = too_late m (call.Cancel task) is.1
+refuses_cancel m task ce.TooLong given is = absurd is
+refuses_cancel m task ce.Full given is = absurd is
+refuses_cancel m task ce.Memory given is = absurd is
+refuses_cancel m task ce.Illegal given is = absurd is
 
 -- why any other call is not taken
-pub refuses_late : (m : LiveView) (asked : CallLine) (error : CallError) → MayBeAsked m.count asked → IsTooFar m 0 error → Refuses (stop_of error) m (l.Call asked)
-refuses_late m asked ce.TooFar may is = too_late m asked is may
-refuses_late m asked ce.NoTask may is = absurd is
-refuses_late m asked ce.TooLong may is = absurd is
-refuses_late m asked ce.Full may is = absurd is
-refuses_late m asked ce.Memory may is = absurd is
-refuses_late m asked ce.Illegal may is = absurd is
+pub refuses_late : (m : LiveView) (asked : CallLine) (error : CallError) → IsTooFar m 0 error → Refuses (stop_of error) m (l.Call asked)
+refuses_late m asked ce.TooFar is = too_late m asked is
+refuses_late m asked ce.NoTask is = absurd is
+refuses_late m asked ce.TooLong is = absurd is
+refuses_late m asked ce.Full is = absurd is
+refuses_late m asked ce.Memory is = absurd is
+refuses_late m asked ce.Illegal is = absurd is
 
 -- want of memory for the answer to one that ends no task
 pub memory_refuses : (old new : LiveView) (line : LiveLine) (r : Reply) (told : Result Answer PieceEnd) → IsCallLine line → TakesLine old new line r → r.ends ≡ [] → IfErr told (λ end. end ≡ e.Memory) → IfErr told (λ end. Refuses end old line)
@@ -178,4 +172,4 @@ start_fails old new worker error fails =
 pub no_run : (m : LiveView) (worker : ℕ) → WouldPassLimit m worker → Refuses e.Full m (l.Event (v.Start worker))
 no_run m worker passes workers so_far at =
     let out = passes so_far.calls so_far.past at.stands in
-    (tt, inr (inr (out.0, out.1, subst (λ n. answer so_far.calls n so_far.past (h.Start worker) ≡ bare (a.Start worker out.0 run_limit out.1)) at.width out.2)))
+    inr (inr (out.0, out.1, subst (λ n. answer so_far.calls n so_far.past (h.Start worker) ≡ bare (a.Start worker out.0 run_limit out.1)) at.width out.2))

@@ -19,11 +19,13 @@ use Rattle.task_table.specs.Tables.{workers_of}
 use Rattle.live_core.specs.Lives.{LiveView, Calls, Happens, Makes, Meets, after_clock, moment_of_call}
 use Rattle.live_core.specs.Events.{run_limit}
 use Rattle.live_core.proofs.Making.{now_there}
+use Rattle.live_engine.specs.declared.live_line.LiveLine.{LiveLine}
 use Rattle.live_engine.specs.declared.live_line.LiveLine.TheVariants as l
+use Rattle.live_engine.specs.declared.stops.PieceEnd.{PieceEnd}
 use Rattle.call_journal.specs.MadeCalls.{code_of}
-use Rattle.live_engine.specs.LiveLines.{IsOutOfNumbers, IsOverLimit, LiveHistory, MayComeNext, after_call, after_happening, happening_in, most_numbers, next_moment, not_given, planned_of}
+use Rattle.live_engine.specs.LiveLines.{FitsLive, IsBeyond, IsOutOfNumbers, IsOverLimit, LiveHistory, after_call, after_happening, happening_in, meant, meant_in, most_numbers, next_moment, not_given, planned_of}
 use Rattle.live_engine.specs.LiveRuns.{IsLiveHistory}
-use Rattle.live_engine.specs.own.LiveSteps.{IsAt, IsLonger, TakesLine}
+use Rattle.live_engine.specs.own.LiveSteps.{IsAt, IsLonger, IsMeant, IsNotTaken, TakesAfter, TakesLine}
 
 -- ---- where an executor stands
 
@@ -44,6 +46,62 @@ next_is workers m so_far at =
     later (now_of so_far.calls (happenings so_far.past)) (after_clock so_far.past) m.table.moment m.earliest
     (now_there m.table so_far.calls so_far.past at.stands.table.means at.stands.table.shows) (sym at.stands.clock)
 
+-- ---- what a line means
+
+-- a number and a line, of a call that cancels one
+abbrev cancel_as : Bool → ℕ → LiveLine
+cancel_as given task = cond given (l.Call (call.Cancel task)) (l.Event (v.Cancel task))
+
+-- it is meant as it stands
+pub is_meant : (numbers : ℕ) (line : LiveLine) → IsMeant numbers (meant numbers line)
+is_meant numbers (l.Event event) = tt
+is_meant numbers (l.Call (call.Schedule delay)) = tt
+is_meant numbers (l.Call call.Execute) = tt
+is_meant numbers (l.Call (call.Rate first period)) = tt
+is_meant numbers (l.Call (call.Fixed first delay)) = tt
+is_meant numbers (l.Call (call.Policy which value)) = tt
+is_meant numbers (l.Call call.Shutdown) = tt
+is_meant numbers (l.Call call.ShutdownNow) = tt
+is_meant numbers (l.Call call.Ask) = tt
+is_meant numbers (l.Call (call.Cancel task)) = by (nat_lt task numbers) refl
+  where
+    by : (b : Bool) → nat_lt task numbers ≡ b → IsMeant numbers (cancel_as b task)
+    by true given = grind (arith, nat_tests, given)
+    by false given = tt
+
+-- and fits where the line does
+pub fits_meant : (numbers : ℕ) (line : LiveLine) → FitsLive line → FitsLive (meant numbers line)
+fits_meant numbers (l.Event event) fits = fits
+fits_meant numbers (l.Call (call.Schedule delay)) fits = fits
+fits_meant numbers (l.Call call.Execute) fits = fits
+fits_meant numbers (l.Call (call.Rate first period)) fits = fits
+fits_meant numbers (l.Call (call.Fixed first delay)) fits = fits
+fits_meant numbers (l.Call (call.Policy which value)) fits = fits
+fits_meant numbers (l.Call call.Shutdown) fits = fits
+fits_meant numbers (l.Call call.ShutdownNow) fits = fits
+fits_meant numbers (l.Call call.Ask) fits = fits
+fits_meant numbers (l.Call (call.Cancel task)) fits = by (nat_lt task numbers)
+  where
+    by : (b : Bool) → FitsLive (cancel_as b task)
+    by true = fits
+    by false = fits
+
+-- an executor knows how many numbers were given out
+pub meant_there : (workers : ℕ) (m : LiveView) (so_far : LiveHistory) (line : LiveLine) → IsAt workers m so_far → meant m.count line ≡ meant_in so_far line
+meant_there workers m so_far line at = ap (λ n. meant n line) (sym at.stands.count)
+
+-- so a line that it takes as it is meant is taken so behind the history
+pub takes_meant : (old new : LiveView) (line : LiveLine) (r : Reply) → TakesLine old new (meant old.count line) r → (workers : ℕ) (so_far : LiveHistory) → IsAt workers old so_far → TakesAfter workers new so_far (meant_in so_far line) r
+takes_meant old new line r takes workers so_far at = subst (λ (line : LiveLine). TakesAfter workers new so_far line r) (meant_there workers old so_far line at) (takes workers so_far at)
+
+-- and there is room for it
+pub has_room_meant : (workers : ℕ) (old : LiveView) (so_far : LiveHistory) (line : LiveLine) → IsAt workers old so_far → (IsBeyond workers so_far (meant old.count line) → ⊥) → IsBeyond workers so_far (meant_in so_far line) → ⊥
+has_room_meant workers old so_far line at room = subst (λ (line : LiveLine). IsBeyond workers so_far line → ⊥) (meant_there workers old so_far line at) room
+
+-- or it is not taken so
+pub not_taken_meant : (end : PieceEnd) (workers : ℕ) (old : LiveView) (so_far : LiveHistory) (line : LiveLine) → IsAt workers old so_far → IsNotTaken end workers so_far (meant old.count line) → IsNotTaken end workers so_far (meant_in so_far line)
+not_taken_meant end workers old so_far line at stop = subst (IsNotTaken end workers so_far) (meant_there workers old so_far line at) stop
+
 -- ---- replies
 
 -- a reply that is the answer
@@ -60,17 +118,6 @@ IsGiven count call.Execute = count < most_numbers
 IsGiven count (call.Rate first period) = count < most_numbers
 IsGiven count (call.Fixed first delay) = count < most_numbers
 IsGiven count asked = Unit {0}
-
-may_come : (count : ℕ) (so_far : LiveHistory) (asked : CallLine) → task_count so_far.calls ≡ count → IsGiven count asked → MayComeNext so_far (l.Call asked)
-may_come count so_far (call.Cancel task) same given = omega (arith, same, given)
-may_come count so_far (call.Schedule delay) same given = tt
-may_come count so_far call.Execute same given = tt
-may_come count so_far (call.Rate first period) same given = tt
-may_come count so_far (call.Fixed first delay) same given = tt
-may_come count so_far (call.Policy which value) same given = tt
-may_come count so_far call.Shutdown same given = tt
-may_come count so_far call.ShutdownNow same given = tt
-may_come count so_far call.Ask same given = tt
 
 -- a number is left for it, if it needs one
 number_left : (count : ℕ) (so_far : LiveHistory) (asked : CallLine) → task_count so_far.calls ≡ count → IsGiven count asked → IsOutOfNumbers so_far (l.Call asked) → ⊥
@@ -111,7 +158,6 @@ planned_is workers m so_far asked at =
 pub takes_call : (old new : LiveView) (asked : CallLine) (r : Reply) → Calls old new (moment_of_call old 0, code_of old.count asked) r → workers_of new.table ≡ workers_of old.table → moment_of_call old 0 ≤ longest → IsGiven old.count asked →
     TakesLine old new (l.Call asked) r
 takes_call old new asked r calls width near given workers so_far at = record {
-  may = may_come old.count so_far asked at.stands.count given;
   within = within_call workers old so_far asked at near given;
   longer = subst (λ (p : Planned). IsLonger workers new so_far (after_call workers so_far p) r) (planned_is workers old so_far asked at)
       (longer_call workers old new so_far (moment_of_call old 0, code_of old.count asked) r at width (calls so_far.calls so_far.past at.stands));
@@ -136,7 +182,6 @@ longer_event workers old new so_far y r at width meets =
 pub takes_event : (old new : LiveView) (event : Event) (y : Happening) (r : Reply) → Happens old new y r → workers_of new.table ≡ workers_of old.table →
     ((so_far : LiveHistory) → task_count so_far.calls ≡ old.count → y ≡ happening_in so_far event) → ((workers : ℕ) (so_far : LiveHistory) → IsAt workers old so_far → IsOverLimit workers so_far (l.Event event) → ⊥) → TakesLine old new (l.Event event) r
 takes_event old new event y r happens width is within workers so_far at = record {
-  may = tt;
   within = within workers so_far at;
   longer = subst (λ (y : Happening). IsLonger workers new so_far (after_happening workers so_far y) r) (is so_far at.stands.count)
       (longer_event workers old new so_far y r at width (happens so_far.calls so_far.past at.stands));

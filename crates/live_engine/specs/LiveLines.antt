@@ -28,11 +28,6 @@ abbrev pub live_line : LiveLine → List ℕ
 live_line (l.Event event) = event_line event
 live_line (l.Call made) = call_line made
 
--- it makes a call
-abbrev pub IsCallLine : LiveLine → Type 0
-IsCallLine (l.Call made) = Unit {0}
-IsCallLine (l.Event event) = ⊥
-
 -- its numbers are in their ranges
 abbrev pub FitsLive : LiveLine → Type 0
 FitsLive (l.Event event) = FitsEvent event
@@ -42,6 +37,13 @@ FitsLive (l.Call made) = FitsCall made
 abbrev pub input_of : List LiveLine → List ℕ
 input_of [] = []
 input_of (line ∷ before) = input_of before ++ live_line line
+
+-- ---- meanings
+
+-- a line as it is taken, where so many numbers were given out: a call that cancels one that was not is the event that cancels it
+abbrev pub meant : ℕ → LiveLine → LiveLine
+meant numbers (l.Call (call.Cancel task)) = if nat_lt task numbers then l.Call (call.Cancel task) else l.Event (v.Cancel task)
+meant numbers line = line
 
 -- ---- histories
 
@@ -81,20 +83,23 @@ after_call workers so_far planned = after_happening workers (record so_far { cal
 abbrev pub planned_of : LiveHistory → CallLine → Planned
 planned_of so_far made = (next_moment so_far, code_of (task_count so_far.calls) made)
 
+-- a line as it is meant where this is the history
+abbrev pub meant_in : LiveHistory → LiveLine → LiveLine
+meant_in so_far line = meant (task_count so_far.calls) line
+
+-- one line more that is meant so
+abbrev pub after_meant : ℕ → LiveHistory → LiveLine → LiveHistory
+after_meant workers so_far (l.Event event) = after_happening workers so_far (happening_in so_far event)
+after_meant workers so_far (l.Call made) = after_call workers so_far (planned_of so_far made)
+
 -- one line more
 abbrev pub after_line : ℕ → LiveHistory → LiveLine → LiveHistory
-after_line workers so_far (l.Event event) = after_happening workers so_far (happening_in so_far event)
-after_line workers so_far (l.Call made) = after_call workers so_far (planned_of so_far made)
+after_line workers so_far line = after_meant workers so_far (meant_in so_far line)
 
 -- the history of some lines, the newest line first in the list
 abbrev pub live_history : ℕ → List LiveLine → LiveHistory
 live_history workers [] = no_history
 live_history workers (line ∷ before) = after_line workers (live_history workers before) line
-
--- a line may come: a call that cancels a task names a number that was given out, and all else may come at any time
-abbrev pub MayComeNext : LiveHistory → LiveLine → Type 0
-MayComeNext so_far (l.Call (call.Cancel task)) = task < task_count so_far.calls
-MayComeNext so_far line = Unit {0}
 
 -- the lines of the trace
 abbrev pub trace_of : LiveHistory → List ℕ
@@ -104,7 +109,7 @@ trace_of so_far = lines_text (lines_of so_far.calls so_far.past)
 abbrev pub trace_length : LiveHistory → ℕ
 trace_length so_far = length (lines_of so_far.calls so_far.past)
 
--- ---- limits
+-- ---- limits, by what lines mean
 
 -- how many numbers are given out at most, as a line names a task by 32 bits (this project's limit)
 abbrev pub most_numbers : ℕ
@@ -114,7 +119,12 @@ most_numbers = 2 ^ 32
 abbrev pub most_lines : ℕ
 most_lines = 2 ^ 64 - 2
 
--- a line makes a call whose moment would be above the limit
+-- a line makes a call
+abbrev pub IsCallLine : LiveLine → Type 0
+IsCallLine (l.Call made) = Unit {0}
+IsCallLine (l.Event event) = ⊥
+
+-- it makes one whose moment would be above the limit
 abbrev pub IsTooLate : LiveHistory → LiveLine → Type 0
 IsTooLate so_far (l.Call made) = longest < next_moment so_far
 IsTooLate so_far (l.Event event) = ⊥
@@ -135,14 +145,14 @@ IsOverLimit workers so_far line = IsTooLate so_far line ⊎ (IsOutOfNumbers so_f
 
 -- with the lines of its answer the trace would be too long
 abbrev pub IsTooMany : ℕ → LiveHistory → LiveLine → Type 0
-IsTooMany workers so_far line = most_lines < trace_length (after_line workers so_far line)
+IsTooMany workers so_far line = most_lines < trace_length (after_meant workers so_far line)
 
 -- why there is no room for a line
 abbrev pub IsBeyond : ℕ → LiveHistory → LiveLine → Type 0
 IsBeyond workers so_far line = IsOverLimit workers so_far line ⊎ IsTooMany workers so_far line
 
--- each of some lines fits, may come after those before it, and has room
+-- each of some lines fits, and has room after those before it
 abbrev pub MayCome : ℕ → List LiveLine → Type 0
 MayCome workers [] = Unit {0}
 MayCome workers (line ∷ before) =
-    MayCome workers before × FitsLive line × MayComeNext (live_history workers before) line × (IsBeyond workers (live_history workers before) line → ⊥)
+    MayCome workers before × FitsLive line × (IsBeyond workers (live_history workers before) (meant_in (live_history workers before) line) → ⊥)

@@ -21,7 +21,7 @@ use Rattle.sched_engine.specs.Running.{IsUntouched}
 use Rattle.live_engine.specs.declared.live_line.LiveLine.{LiveLine}
 use Rattle.live_engine.specs.declared.live_line.LiveLine.TheVariants as l
 use Rattle.live_engine.specs.declared.report.LiveReport.{LiveReport}
-use Rattle.live_engine.specs.LiveLines.{LiveHistory, FitsLive, IsBeyond, IsCallLine, MayCome, MayComeNext, input_of, live_history, live_line, next_moment, trace_length, trace_of}
+use Rattle.live_engine.specs.LiveLines.{LiveHistory, FitsLive, IsBeyond, IsCallLine, MayCome, input_of, live_history, live_line, meant_in, next_moment, trace_length, trace_of}
 
 -- ---- what stands behind the lines that were taken
 
@@ -32,35 +32,29 @@ pub record BeginsWith (bytes : List ℕ) (IsSo : LiveLine → Type 0) : Type 0 w
   pub read : IsRead live_line FitsLive bytes line rest
   pub so : IsSo line
 
--- some bytes begin with a line that may not come where this is the history
-abbrev pub BeginsWithBarred : LiveHistory → List ℕ → Type 0
-BeginsWithBarred so_far bytes = BeginsWith bytes (λ line. MayComeNext so_far line → ⊥)
-
--- with one that may come, and for which there is no room
+-- some bytes begin with a line for which there is no room where this is the history
 abbrev pub BeginsBeyond : ℕ → LiveHistory → List ℕ → Type 0
-BeginsBeyond workers so_far bytes = BeginsWith bytes (λ line. MayComeNext so_far line × IsBeyond workers so_far line)
+BeginsBeyond workers so_far bytes = BeginsWith bytes (λ line. IsBeyond workers so_far (meant_in so_far line))
 
--- with a call that may come, and for which there is room, so that nothing is wanting for it but memory; an event wants none
+-- with one that makes a call, and for which there is room, so that nothing is wanting for it but memory; an event wants none
 abbrev pub BeginsWanting : ℕ → LiveHistory → List ℕ → Type 0
-BeginsWanting workers so_far bytes = BeginsWith bytes (λ line. IsCallLine line × MayComeNext so_far line × (IsBeyond workers so_far line → ⊥))
+BeginsWanting workers so_far bytes = BeginsWith bytes (λ line. IsCallLine (meant_in so_far line) × (IsBeyond workers so_far (meant_in so_far line) → ⊥))
 
--- some bytes begin with no line, or with one that may not come
-abbrev pub BeginsWithNone : LiveHistory → List ℕ → Type 0
-BeginsWithNone so_far bytes = IsUnread live_line FitsLive bytes ⊎ BeginsWithBarred so_far bytes
-
--- why the bytes that were read behind the lines are no line: they are refused, or are a part of a line with which the input ends, or
--- begin with a line that may not come
-abbrev pub IsNoLine : LiveHistory → Option (List ℕ) → List ℕ → Type 0
-IsNoLine so_far left ahead =
-    IsLiveFront front.Refused ahead ⊎ ((IsPart ahead × (0 < length ahead) × IsAtEnd left) ⊎ BeginsWithBarred so_far ahead)
+-- why the bytes that were read behind the lines are no line: they are refused, or are a part of a line with which the input ends
+abbrev pub IsNoLine : Option (List ℕ) → List ℕ → Type 0
+IsNoLine left ahead = IsLiveFront front.Refused ahead ⊎ (IsPart ahead × (0 < length ahead) × IsAtEnd left)
 
 -- ---- the journal
+
+-- the call that a line makes that is meant so, with its moment, and none where it makes none
+abbrev pub made_by : LiveHistory → LiveLine → List MadeCall
+made_by so_far (l.Event event) = []
+made_by so_far (l.Call made) = record { moment = next_moment so_far; call = made } ∷ []
 
 -- the calls that some lines made, with their moments, the newest first
 abbrev pub made_calls : ℕ → List LiveLine → List MadeCall
 made_calls workers [] = []
-made_calls workers (l.Event event ∷ before) = made_calls workers before
-made_calls workers (l.Call call ∷ before) = record { moment = next_moment (live_history workers before); call = call } ∷ made_calls workers before
+made_calls workers (line ∷ before) = made_by (live_history workers before) (meant_in (live_history workers before) line) ++ made_calls workers before
 
 -- a journal, once some calls were noted one after the other, the newest first in the list
 abbrev pub all_noted : JournalView → List MadeCall → JournalView
@@ -113,8 +107,8 @@ Writes old new IsSo lines so_far = Appends old.contents new.contents (trace_of s
 abbrev pub Runs : Result LiveReport StopError → ℕ → LiveEnds → LiveEnds → Type 0
 Runs (Ok report) workers old new = Taken workers old.left new.left old.journal new.journal (λ _ ahead. ahead ≡ []) (λ _ rest. rest ≡ [])
     (Writes old new (λ lines so_far. (report.lines_read ≡ length lines) × (report.lines_written ≡ trace_length so_far)))
-Runs (Err (s.EventLine n)) workers old new = Taken workers old.left new.left old.journal new.journal (λ so_far. IsNoLine so_far new.left)
-    (λ so_far rest. BeginsWithNone so_far rest × (0 < length rest)) (Writes old new (λ lines _. n ≡ length lines + 1))
+Runs (Err (s.EventLine n)) workers old new = Taken workers old.left new.left old.journal new.journal (λ _. IsNoLine new.left)
+    (λ _ rest. IsUnread live_line FitsLive rest × (0 < length rest)) (Writes old new (λ lines _. n ≡ length lines + 1))
 Runs (Err s.Full) workers old new = Taken workers old.left new.left old.journal new.journal (BeginsBeyond workers) (BeginsBeyond workers)
     (Writes old new (λ _ _. Unit {0}))
 Runs (Err s.Read) workers old new = Taken workers old.left new.left old.journal new.journal (λ _ ahead. IsPart ahead) (λ _ _. Unit {0})

@@ -26,13 +26,14 @@ use std::alloc::Allocator;
 ///
 /// `workers` is the number of workers, 1 to 64. Moments are nanoseconds. A piece of input, 64 KiB at most, is answered whole and its
 /// text written before more is read, so whoever feeds lines sees each answer before the run waits for more. Nothing is flushed. Each
-/// call that is made is noted in the journal where that keeps calls, rejected submissions too.
+/// call that is made is noted in the journal where that keeps calls, rejected submissions too. A `call cancel K` of a number that was
+/// not given out is the event `cancel K`, and no call.
 ///
 /// On [`RunError::Workers`] nothing is read, written or noted. On [`RunError::EventLine`], [`RunError::Full`] and [`RunError::Read`]
 /// the text of the answers to all lines before was written, and on [`RunError::Write`] a front of the text of some of the first
 /// lines' answers. On [`RunError::Memory`] nothing was read, written or noted, or there was no memory for a further line that makes
-/// a call, may come, and for which there is room, and the text of the answers to all lines before it was written. At most one piece
-/// was read behind the last line that was taken.
+/// a call, and for which there is room, and the text of the answers to all lines before it was written. At most one piece was read
+/// behind the last line that was taken.
 pub fn run<A: Allocator, S: Source, W: Sink>(
     alloc: A,
     workers: u8,

@@ -21,7 +21,8 @@
 //!
 //! A call is made at once: its moment is now, or 1 ns after the last accepted clock, whichever is later. Submissions are numbered 0,
 //! 1, .. in the order of their lines, whether they are accepted or not. An event `cancel K` whose number was not given out yet
-//! is answered `error no task`, and cancels no task, also none that is given that number later.
+//! is answered `error no task`, and cancels no task, also none that is given that number later. A `call cancel K` of such a number
+//! is taken as that event: it makes no call, is not noted, and the run goes on.
 //!
 //! Each call that is made is noted in the journal that is handed in, which keeps the first 65,536 of them where they are wanted. A
 //! plan may make those that are noted in an empty one, also where the run ends at an error, and the text that
@@ -32,12 +33,12 @@
 //! | Error | When | What was written |
 //! |---|---|---|
 //! | [`RunError::Workers`] | the workers are not 1 to 64 | nothing, and nothing was read |
-//! | [`RunError::EventLine`] | that line, counted from 1, is no line, or a `call cancel K` of a number that was not given out | the answers to all lines before |
-//! | [`RunError::Full`] | a further line follows that may come, and for which there is no room: see below | the answers to all lines before |
+//! | [`RunError::EventLine`] | that line, counted from 1, is no line | the answers to all lines before |
+//! | [`RunError::Full`] | a further line follows for which there is no room: see below | the answers to all lines before |
 //! | [`RunError::Read`] | the reader was at fault, or interrupted 1,000 times in a row | the answers to all whole lines read |
 //! | [`RunError::Write`] | the writer was at fault, took nothing, or was interrupted 1,000 times in a row | a front of some lines' answers |
 //! | [`RunError::Memory`] | memory was refused at the start | nothing, and nothing was read |
-//! | | memory was refused for a further line that makes a call, that may come, and for which there is room | the answers to all lines before |
+//! | | memory was refused for a further line that makes a call, and for which there is room | the answers to all lines before |
 //!
 //! There is no room for a call whose moment would be above 2^62 ns, for a submission where 2^32 numbers were given out, for a start
 //! that would begin a run whose number is 2^64 - 1, and for a line with whose answer the trace would have more than 2^64 - 2 lines.

@@ -1,5 +1,6 @@
 //! One line: it is taken, noted and counted, and its answer is given out as lines.
 ghost use Rattle.std.specs.Prelude.{◌≡◌, ℕ, ◌≤◌, OnOk, OnErr, IfOk, IfErr};
+ghost use Rattle.live_engine.specs.LiveLines as meanings;
 ghost use Rattle.live_engine.specs.LiveLines.{LiveHistory, FitsLive, most_numbers, trace_length};
 ghost use Rattle.live_engine.specs.own.LiveTurns.{AreCounted};
 ghost use Rattle.live_engine.specs.declared.live_line.LiveLine as live_lines;
@@ -7,7 +8,7 @@ ghost use Rattle.live_engine.specs.own.LiveSteps.{Answers, IsAt, IsNoStep, IsNot
 
 use crate::answer_texts::{Told, count_told, tell};
 use crate::counts::{Counts, MOST_LINES};
-use crate::live_line::LiveLine;
+use crate::live_line::{LiveLine, meant};
 use crate::stepping::step;
 use crate::stops::PieceEnd;
 use call_journal::{Journal, MadeCall};
@@ -15,9 +16,9 @@ use executor_model::Line;
 use live_core::ScheduledExecutor;
 use std::alloc::Allocator;
 
-/// Takes a line, and tells the lines of its answer: where there are several, they are written in place of those in the list. A call
-/// is noted before its answer is given out. Where the line is not taken, nothing is noted or counted, and the executor is somewhere on
-/// the way. Whether there is memory for a call is asked last: after whether it may come, and whether there is room for it. An
+/// Takes a line as it is meant, and tells the lines of its answer: where there are several, they are written in place of those in the
+/// list. A call that is made is noted before its answer is given out. Where the line is not taken, nothing is noted or counted, and
+/// the executor is somewhere on the way. Whether there is memory for a call is asked last: after whether there is room for it. An
 /// event wants none.
 pub(crate) fn answer_line<A: Allocator>(
     executor: &mut ScheduledExecutor<A>,
@@ -36,10 +37,12 @@ pub(crate) fn answer_line<A: Allocator>(
     ensures counted { OnOk result (AreCounted counts.new) }
     ensures refuses { IfErr result
         (λ end. (workers : ℕ) (so_far : LiveHistory) → IsAt workers executor.old so_far
-        → counts.old.written ≡ trace_length so_far → IsNotTaken end workers so_far line) }
+        → counts.old.written ≡ trace_length so_far
+        → IsNotTaken end workers so_far (meanings.meant executor.old.count line)) }
     ensures uncounted { OnErr result (counts.new ≡ counts.old) }
     ensures unnoted { OnErr result (journal.new ≡ record journal.old { room = journal.new.room }) }
 {
+    let line = meant(executor.numbers(), line);
     let answer = match step(executor, line) {
         Ok(answer) => answer,
         Err(end) => return Err(end_after(counts.written, end)),

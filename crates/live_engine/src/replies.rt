@@ -32,7 +32,7 @@ pub(crate) fn submit_answer(submitted: Submitted, kind: Kind) -> Answer
     }
 }
 
-/// Why a line is not taken whose call is not made.
+/// Why a line is not taken whose call is not made. A line that fits, and is meant as it stands, lacks room or memory alone.
 pub(crate) fn stop_of(error: CallError) -> PieceEnd
     ensures { result ≡ steps.stop_of error }
 {

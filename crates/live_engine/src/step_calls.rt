@@ -6,7 +6,7 @@ ghost use Rattle.call_text.specs.declared.call.CallLine.TheVariants as call;
 ghost use Rattle.live_core.specs.Said.{ending};
 ghost use Rattle.live_engine.specs.LiveLines.{most_numbers};
 ghost use Rattle.live_engine.specs.declared.live_line.LiveLine.TheVariants as l;
-ghost use Rattle.live_engine.specs.own.LiveSteps.{TakesLine, Refuses};
+ghost use Rattle.live_engine.specs.own.LiveSteps.{IsMeant, TakesLine, Refuses};
 
 use crate::replies::{ask_answer, shutdown_answer, stop_of, submit_answer};
 use crate::stops::PieceEnd;
@@ -19,12 +19,13 @@ use std::alloc::Allocator;
 /// So many numbers are given out at most, since a line names a task by 32 bits.
 pub(crate) const MOST_NUMBERS: u64 = 1 << 32;
 
-/// A call is made.
+/// A call is made, which is meant as it stands.
 pub(crate) fn step_call<A: Allocator>(
     executor: &mut ScheduledExecutor<A>,
     call: CallLine,
 ) -> Result<Answer, PieceEnd>
     requires fits { FitsCall call }
+    requires meant { IsMeant executor.old.count (l.Call call) }
     requires few { executor.old.count ≤ most_numbers }
     ensures takes { IfOk result
         (λ answer. TakesLine executor.old executor.new (l.Call call)
@@ -134,8 +135,9 @@ fn with_delay<A: Allocator>(
     }
 }
 
-/// A task is cancelled.
+/// A task is cancelled, whose number was given out.
 fn cancel<A: Allocator>(executor: &mut ScheduledExecutor<A>, task: u32) -> Result<Answer, PieceEnd>
+    requires given { task < executor.old.count }
     requires few { executor.old.count ≤ most_numbers }
     ensures takes { IfOk result
         (λ answer. TakesLine executor.old executor.new (l.Call (call.Cancel task))

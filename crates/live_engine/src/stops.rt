@@ -5,10 +5,10 @@
 pub(crate) enum PieceEnd {
     /// Less than a line is left.
     Part,
-    /// What is left begins with no line, or with one that may not come.
+    /// What is left begins with no line.
     Refused,
-    /// A further line follows that may come, and for which there is no room.
+    /// A further line follows for which there is no room.
     Full,
-    /// A further line follows that may come, and for which there is room, and memory for it was refused.
+    /// A further line follows for which there is room, and memory for it was refused.
     Memory,
 }

@@ -87,36 +87,28 @@ impl Core {
         }
     }
 
-    /// Answers a line. `Err(false)` is a line that may not come, and `Err(true)` one for which there is no number or moment left.
+    /// Answers a line. `false`: there is no number or moment left for it.
     #[inline]
-    pub fn line(&mut self, line: Line, out: &mut Out) -> Result<(), bool> {
+    pub fn line(&mut self, line: Line, out: &mut Out) -> bool {
         match line {
             Line::Clock(t) => self.clock(t, out),
             Line::Start(w) => self.start(w, out),
             Line::Finish(w, ending) => self.finish(w, ending, out),
+            Line::Cancel(k) | Line::CancelByCall(k) if k as u64 >= self.count => self.say(b"error no task", out),
             Line::Cancel(k) => {
-                if k as u64 >= self.count {
-                    self.say(b"error no task", out);
-                    return Ok(());
-                }
                 let effect = self.cancel(k as u64);
                 self.tell_cancel(b"outside ", k as u64, effect, out);
             }
             call => return self.call(call, out),
         }
-        Ok(())
+        true
     }
 
     #[inline]
-    fn call(&mut self, call: Line, out: &mut Out) -> Result<(), bool> {
-        if let Line::CancelByCall(k) = call {
-            if k as u64 >= self.count {
-                return Err(false);
-            }
-        }
+    fn call(&mut self, call: Line, out: &mut Out) -> bool {
         let moment = self.now.max(self.earliest);
         if moment > TOP || (matches!(call, Line::Submit(..)) && self.count > u32::MAX as u64) {
-            return Err(true);
+            return false;
         }
         self.set_now(moment);
         match call {
@@ -140,7 +132,7 @@ impl Core {
             }
             _ => self.ask(out),
         }
-        Ok(())
+        true
     }
 
     #[inline(always)]

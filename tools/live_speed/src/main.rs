@@ -40,10 +40,10 @@ fn main() {
         }
         let end = have + read;
         let mut rest = &buffer[..end];
-        let fault = loop {
-            let Some((line, behind)) = text::line(rest) else { break None };
-            if let Err(fault) = core.line(line, &mut out) {
-                break Some(fault);
+        let full = loop {
+            let Some((line, behind)) = text::line(rest) else { break false };
+            if !core.line(line, &mut out) {
+                break true;
             }
             count += 1;
             rest = behind;
@@ -52,8 +52,8 @@ fn main() {
         if out.failed {
             die("write fault");
         }
-        if let Some(full) = fault {
-            die(&if full { "full".to_string() } else { format!("event line {}", count + 1) });
+        if full {
+            die("full");
         }
         have = rest.len();
         if have >= 63 || rest.contains(&b'\n') {

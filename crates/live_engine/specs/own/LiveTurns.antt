@@ -1,6 +1,6 @@
 -- Turns: how far a live run has come, between one read and the next.
 -- All of it is this project's rule.
-use Rattle.std.specs.Prelude.{◌≡◌, ℕ, ◌+◌, ◌-◌, ◌*◌, ◌<◌, ◌≤◌, List, [], ◌++◌, ◌⊎◌, Option, Result, Ok, Err, length, take}
+use Rattle.std.specs.Prelude.{◌≡◌, ℕ, ◌+◌, ◌-◌, ◌*◌, ◌<◌, ◌≤◌, List, [], ◌++◌, Option, Result, Ok, Err, length, take}
 use Rattle.std.specs.Io.KnownBytes.{Appends, Consumes, prepend_known}
 use Rattle.executor_model.specs.Counts.{IsWorkerCount}
 use Rattle.trace_text.specs.Reading.{IsPart, most_event_bytes}
@@ -17,7 +17,7 @@ use Rattle.live_engine.specs.declared.counts.Counts.{Counts}
 use Rattle.live_engine.specs.declared.engine.Turn.{Turn}
 use Rattle.live_engine.specs.declared.engine.Turn.TheVariants as t
 use Rattle.live_engine.specs.LiveLines.{MayCome, input_of, most_lines, no_history, live_history, trace_length, trace_of}
-use Rattle.live_engine.specs.LiveRuns.{BeginsBeyond, BeginsWanting, BeginsWithBarred, IsLiveHistory, LiveEnds, Notes, Runs, made_calls}
+use Rattle.live_engine.specs.LiveRuns.{BeginsBeyond, BeginsWanting, IsLiveHistory, LiveEnds, Notes, Runs, made_calls}
 use Rattle.live_engine.specs.own.LiveSteps.{IsAt}
 
 -- what a run runs over: how many workers there are, and what the ends had at first
@@ -58,7 +58,7 @@ pub record DoneAt (run : Setting) (at : Progress) (m : LiveView) (lines : List L
 -- where the lines led it
 abbrev pub IsPieceEnd : PieceEnd → ℕ → LiveView → List LiveLine → List ℕ → Type 0
 IsPieceEnd e.Part workers m lines rest = IsPart rest × IsAt workers m (live_history workers lines)
-IsPieceEnd e.Refused workers m lines rest = IsLiveFront front.Refused rest ⊎ BeginsWithBarred (live_history workers lines) rest
+IsPieceEnd e.Refused workers m lines rest = IsLiveFront front.Refused rest
 IsPieceEnd e.Full workers m lines rest = BeginsBeyond workers (live_history workers lines) rest
 IsPieceEnd e.Memory workers m lines rest = BeginsWanting workers (live_history workers lines) rest
 

@@ -9,6 +9,7 @@ use Rattle.live_engine.specs.declared.stops.PieceEnd.{PieceEnd}
 use Rattle.live_engine.specs.LiveLines.{live_history, live_line}
 use Rattle.live_engine.specs.own.LiveSteps.{Answers, lines_told}
 use Rattle.live_engine.specs.own.LiveTurns.{Progress, Stopped}
+use Rattle.live_engine.proofs.Steps.{not_taken_meant}
 use Rattle.live_engine.proofs.Going.{cut, cut_within, front_end, left_more, line_end, taken, unnoted}
 use Rattle.live_engine.proofs.answering.answer_lines.Goals as goal
 use Rattle.live_engine.proofs.answering.answer_lines.Goals.{in-Err, in-Ok+in-Err-answer_line}
@@ -79,6 +80,7 @@ returns-clause-stopped g c = λ run left before d.
           let end = w.in-Err-answer_line.end in
           let told = w.in-Err-answer_line.ensures in
           let after = w.answer_line.new in
+          let so_far = live_history run.workers so.0 in
           subst (λ end. S end here.journal here.counts here.executor rest) (sym w.end-is)
           (subst (λ journal. S end journal here.counts here.executor rest) (sym w.journal-is)
           (subst (λ counts. S end after.journal counts here.executor rest) (sym w.counts-is)
@@ -86,6 +88,7 @@ returns-clause-stopped g c = λ run left before d.
           (record {
             lines = so.0;
             done = unnoted run at so.0 after.counts after.journal so.1.done told.uncounted told.unnoted;
-            stop = line_end end run.workers after.executor so.0 rest w.in-Ok.next.1.now w.in-Ok.next.0 w.in-Ok.ensures.line (told.refuses run.workers (live_history run.workers so.0) so.1.stands so.1.done.counted);
+            stop = line_end end run.workers after.executor so.0 rest w.in-Ok.next.1.now w.in-Ok.next.0 w.in-Ok.ensures.line
+                (not_taken_meant end run.workers c.loop-next.executor so_far w.in-Ok.next.0 so.1.stands (told.refuses run.workers so_far so.1.stands so.1.done.counted));
           }))))
     ])

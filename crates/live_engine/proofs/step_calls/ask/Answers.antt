@@ -27,4 +27,4 @@ returns-in-Ok-clause-refuses g c =
 pub returns-in-Err-clause-refuses : goal.returns-in-Err-clause-refuses
 returns-in-Err-clause-refuses g c =
     let error = c.in-Err.error in
-    subst (λ (end : PieceEnd). Refuses end c.args.executor.now (l.Call (call.Ask))) (sym c.stop_of.ensures) (refuses_late c.args.executor.now call.Ask error (λ so_far same. tt) c.in-Err.ensures.failed)
+    subst (λ (end : PieceEnd). Refuses end c.args.executor.now (l.Call (call.Ask))) (sym c.stop_of.ensures) (refuses_late c.args.executor.now call.Ask error c.in-Err.ensures.failed)

@@ -16,4 +16,4 @@ returns-in-Ok-clause-takes g c =
 pub returns-in-Err-clause-refuses : goal.returns-in-Err-clause-refuses
 returns-in-Err-clause-refuses g c =
     let error = c.in-Err.error in
-    subst (λ (end : PieceEnd). Refuses end c.args.executor.now (l.Call (call.Cancel c.args.task))) (sym c.stop_of.ensures) (refuses_cancel c.args.executor.now c.args.task error c.in-Err.ensures.failed)
+    subst (λ (end : PieceEnd). Refuses end c.args.executor.now (l.Call (call.Cancel c.args.task))) (sym c.stop_of.ensures) (refuses_cancel c.args.executor.now c.args.task error c.requires.given c.in-Err.ensures.failed)

@@ -15,4 +15,4 @@ returns-in-Ok-clause-takes g c =
 pub returns-in-Err-clause-refuses : goal.returns-in-Err-clause-refuses
 returns-in-Err-clause-refuses g c =
     let error = c.in-Err.error in
-    subst (λ (end : PieceEnd). Refuses end c.args.executor.now (l.Call (call.ShutdownNow))) (sym c.stop_of.ensures) (refuses_late c.args.executor.now call.ShutdownNow error (λ so_far same. tt) c.in-Err.ensures.failed)
+    subst (λ (end : PieceEnd). Refuses end c.args.executor.now (l.Call (call.ShutdownNow))) (sym c.stop_of.ensures) (refuses_late c.args.executor.now call.ShutdownNow error c.in-Err.ensures.failed)

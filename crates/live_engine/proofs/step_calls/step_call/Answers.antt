@@ -44,3 +44,8 @@ pub returns-in-Ask-clause-takes : goal.returns-in-Ask-clause-takes
 returns-in-Ask-clause-takes g c =
     let new = c.ask.new.executor in
     subst (λ (asked : CallLine). IfOk c.ask.result (λ answer. TakesLine c.args.executor.now new (l.Call asked) (ending answer new.ended))) (sym c.in-Ask.is) c.ask.ensures.takes
+
+pub returns-in-Cancel-clause-takes : goal.returns-in-Cancel-clause-takes
+returns-in-Cancel-clause-takes g c =
+    let new = c.cancel.new.executor in
+    subst (λ (asked : CallLine). IfOk c.cancel.result (λ answer. TakesLine c.args.executor.now new (l.Call asked) (ending answer new.ended))) (sym c.in-Cancel.is) c.cancel.ensures.takes
