@@ -1,6 +1,8 @@
-"""The Rust crate as source, with the archive beside it that it is linked with."""
+"""The Rust crate as source, with the archive beside it that it is linked with, and the programs of examples/embed/rust as its examples."""
 
 from __future__ import annotations
+
+from pathlib import Path
 
 import parts as made
 from library import TOP
@@ -8,10 +10,11 @@ from parts import LIBRARY_CRATES, Parts
 from tools import ToolError
 from tree import File, Tree, copied, tarred
 
-SOURCE = TOP / "examples" / "embed" / "rust"
+SOURCE = TOP / "bindings" / "rust"
+PROGRAMS = TOP / "examples" / "embed" / "rust"
 
 # The files of the crate, as patterns below its folder, and the folder in which it looks for archives.
-FILES = ("Cargo.toml", "Cargo.lock", "build.rs", "src/**/*.rs", "examples/*.rs", "tests/*.rs")
+FILES = ("Cargo.toml", "Cargo.lock", "README.md", "build.rs", "src/**/*.rs", "tests/*.rs")
 ARCHIVES = "archives"
 
 
@@ -20,14 +23,19 @@ def name(parts: Parts) -> str:
     return f"sched-rust-{parts.version}"
 
 
+def matching(folder: Path, pattern: str) -> Tree:
+    """The files of a folder that a pattern names, which has to name some."""
+    paths = sorted(folder.glob(pattern))
+    if not paths:
+        raise ToolError(f"{folder} has no {pattern}")
+    return {str(path.relative_to(folder)): copied(path) for path in paths}
+
+
 def tree(parts: Parts) -> Tree:
     """All files."""
-    found: Tree = {}
+    found = {f"examples/{name}": entry for name, entry in matching(PROGRAMS / "src" / "bin", "*.rs").items()}
     for pattern in FILES:
-        paths = sorted(SOURCE.glob(pattern))
-        if not paths:
-            raise ToolError(f"{SOURCE} has no {pattern}")
-        found |= {str(path.relative_to(SOURCE)): copied(path) for path in paths}
+        found |= matching(SOURCE, pattern)
     found[f"{ARCHIVES}/libsched.a"] = parts.archive
     found["NOTICES"] = made.notices(LIBRARY_CRATES)
     found["MACHINES"] = File(made.library_machines(parts).encode())

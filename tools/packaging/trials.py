@@ -22,11 +22,12 @@ import tarball
 import versions
 import wheel
 from checks import Installed, expect
-from library import C_LIBRARY
+from library import C_LIBRARY, TOP
 from parts import Parts
 from tools import ToolError, output
 
-# The examples in Python that stand beside the package, and what each writes.
+# The programs in Python that the wheel is tried with, and what each writes.
+PYTHON_PROGRAMS = TOP / "examples" / "embed" / "python"
 PYTHON_EXAMPLES = {"heartbeat_pool.py": "heartbeat_pool.txt", "debounce.py": "debounce.txt"}
 # Writes all fields of what an installed package says of itself.
 METADATA_PROGRAM = """\
@@ -218,9 +219,9 @@ def try_wheel(trials: Trials, parts: Parts, packages: dict[str, bytes], folder: 
             try_metadata(python, parts.version, environment)
         for example, wanted in PYTHON_EXAMPLES.items():
             with trials.step(f"{kind}: {example}"):
-                shutil.copy(wheel.SOURCE / example, folder)
+                shutil.copy(PYTHON_PROGRAMS / example, folder)
                 found = output([python, "-I", folder / example], environment=environment, folder=folder)
-                expect(found, (wheel.SOURCE / wanted).read_text())
+                expect(found, (PYTHON_PROGRAMS / wanted).read_text())
     with trials.step("wheel and source archive: the same bytes once more, and without the program"):
         anew = Parts(parts.version)
         again = wheel.package(anew)
@@ -286,7 +287,7 @@ def try_crate(trials: Trials, parts: Parts, packages: dict[str, bytes], folder: 
     for example, wanted in RUST_EXAMPLES.items():
         with trials.step(f"crate: its example {example}"):
             found = output(["cargo", "run", "--quiet", "--offline", "--example", example], environment=environment, folder=root)
-            expect(found, (crate.SOURCE / wanted).read_text())
+            expect(found, (crate.PROGRAMS / wanted).read_text())
     with trials.step("crate: another crate that stands on it"):
         user = crate_user(folder, root)
         expect(output(["cargo", "run", "--quiet", "--offline"], environment=environment, folder=user), RUST_USER_WRITES)

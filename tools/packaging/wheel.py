@@ -21,7 +21,7 @@ from tools import ToolError
 from tree import File, Tree, copied, files
 from wheel_backend import PACKAGE
 
-SOURCE = TOP / "examples" / "embed" / "python"
+SOURCE = TOP / "bindings" / "python"
 
 # The files of the package, as patterns below its folder, and the libraries in it, each with the archive that it is made of.
 FILES = ("*.py", "py.typed")

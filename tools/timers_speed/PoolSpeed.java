@@ -7,7 +7,7 @@ import java.util.concurrent.atomic.AtomicInteger;
 
 /**
  * How many tasks a second Java's ScheduledThreadPoolExecutor runs, and how late its timers are, as
- * examples/embed/rust/examples/pool_speed.rs does it of the pool in Rust, with the same lines.
+ * examples/embed/rust/src/bin/pool_speed.rs does it of the pool in Rust, with the same lines.
  */
 public final class PoolSpeed {
     static final int TASKS = 1_000_000, ROUNDS = 7, TIMERS = 1_000;

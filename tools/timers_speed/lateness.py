@@ -1,5 +1,5 @@
 #!/usr/bin/env python3
-"""Measures how late timers begin: 1,000 of them, one each millisecond, by the pool of examples/embed/python and by Python's sched.
+"""Measures how late timers begin: 1,000 of them, one each millisecond, by the pool of bindings/python and by Python's sched.
 
     tools/timers_speed/lateness.py [WORKERS]
 
@@ -13,7 +13,7 @@ import sys
 import time
 from pathlib import Path
 
-sys.path.append(str(Path(__file__).resolve().parent.parent.parent / "examples" / "embed" / "python"))
+sys.path.append(str(Path(__file__).resolve().parent.parent.parent / "bindings" / "python"))
 
 from sched_timers import ScheduledThreadPoolExecutor
 

@@ -65,3 +65,8 @@ pub use delay_queue::{DelayQueue, Due, Entry, InsertManyError, QueueError};
 pub use executor::{Event, Executor, ExecutorError, Fault, FaultKind, Lines, Phase, Run, Task};
 pub use pool::{Handle, JoinError, PoolError, ScheduledThreadPool};
 pub use timers::{TaskRef, Timers, TimersError};
+
+/// The example of the page `README.md`, which is a test.
+#[cfg(doctest)]
+#[doc = include_str!("../README.md")]
+struct Readme;

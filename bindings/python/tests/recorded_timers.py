@@ -7,7 +7,7 @@ import sys
 import tempfile
 from pathlib import Path
 
-PYTHON = Path(__file__).resolve().parent.parent / "python"
+PYTHON = Path(__file__).resolve().parent.parent
 sys.path.insert(0, str(PYTHON))
 
 from sched_timers.timers import Policy, Status, Timers

@@ -1,6 +1,6 @@
 /* Random calls of timers, with all that they answer: timers_random SEED CALLS. One seed makes the same calls over any library that
  * answers alike, so what it writes over the proved one and over tools/timers_speed/peer.c has to be the same. Slots are not written,
- * since each library may choose its own. Moments and delays are small, so that many tasks are due at once. tools/embed runs it. */
+ * since each library may choose its own. Moments and delays are small, so that many tasks are due at once. tools/bindings runs it. */
 #include "timers.h"
 
 #include <inttypes.h>

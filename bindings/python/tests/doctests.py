@@ -6,8 +6,8 @@ import pkgutil
 
 from recorded_timers import PYTHON
 
-TOP = PYTHON.parent.parent.parent
-PAGES = ["docs/EMBEDDING.md", "examples/embed/python/README.md"]
+TOP = PYTHON.parent.parent
+PAGES = ["docs/EMBEDDING.md", "bindings/python/README.md"]
 # What shows what it does by examples. What has the calls of a header alone, or only types, has
 # none.
 SHOWN = ["", "._numbers", "._sleepers", "._spans", ".delay_queue", ".errors", ".executor",

@@ -3,7 +3,7 @@
  * A toolchain's standard library is not built for the sanitizer. What a lock does where no thread waits is compiled into the
  * program, and is seen; what it does where one waits is not. These functions stand around the three in which a thread waits, by
  * --wrap of the linker: LOCK, which takes a lock that another thread holds, and WAIT and WAIT_TIMEOUT, which give it back and take
- * it again. examples/embed/rust/sanitize finds their names in the toolchain.
+ * it again. bindings/rust/sanitize finds their names in the toolchain.
  */
 #include <stdbool.h>
 #include <stdint.h>

@@ -1,6 +1,6 @@
 /* Timers by the machine's clock: timers_trace FOLDER. Each scene writes its trace to FOLDER/SCENE.txt, and the plan of its calls
  * to FOLDER/SCENE.toml: `sched check FOLDER/SCENE.toml FOLDER/SCENE.txt --workers 2` takes them. What comes of the tasks is
- * compared here with what is due by then. All scenes take less than 2 seconds. tools/embed builds and runs it, and checks the
+ * compared here with what is due by then. All scenes take less than 2 seconds. tools/bindings builds and runs it, and checks the
  * traces. */
 #define _POSIX_C_SOURCE 200809L
 #include "timers.h"

@@ -1,6 +1,6 @@
 /* Each answer of each call of the timers, with what is written then and the lines of the call, and each growth refused in turn.
  * With the word `far` it makes 2^32 submissions as well, to have one whose number no line can tell: that takes a minute.
- * TIMERS_FULL is not met, since 2^64 - 1 submissions come before it. tools/embed builds and runs it. */
+ * TIMERS_FULL is not met, since 2^64 - 1 submissions come before it. tools/bindings builds and runs it. */
 #include "growths.h"
 #include "timers.h"
 

@@ -18,7 +18,7 @@ const LIBRARIES: [&str; 3] = ["delay_queue_c", "timers_c", "sched_c"];
 /// What to do where no archive is found.
 const ADVICE: [&str; 4] = [
     "no archive of the library is found: `cargo check` and `cargo doc` do without, but nothing can be linked.",
-    "In the repository, run `examples/embed/rust/with_archives COMMAND` in place of `cargo COMMAND`: it proves the library and makes \
+    "In the repository, run `bindings/rust/with_archives COMMAND` in place of `cargo COMMAND`: it proves the library and makes \
      the archives.",
     "Elsewhere, put libdelay_queue_c.a, libtimers_c.a, libsched_c.a and the toolchain's liblibc_c.a, or one archive of all, into the \
      folder `archives` beside Cargo.toml,",

@@ -1,4 +1,4 @@
-/* Each answer of each call, and each growth refused in turn. tools/embed builds and runs it. */
+/* Each answer of each call, and each growth refused in turn. tools/bindings builds and runs it. */
 #include "delay_queue.h"
 #include "growths.h"
 #include <inttypes.h>
