@@ -22,7 +22,7 @@
  * What is proved: each function of the library, named dq_ref_.. below, and dq_insert_unchecked meet their contracts
  * (crates/delay_queue_c), which say the answer, what is written and what becomes of the queue in each case, touch no memory
  * but what they are handed and what the queue took, and end. What is not: when dq_new answers DQ_NO_MEMORY, since no contract
- * says what malloc grants; that it keeps no memory then, and that dq_free gives all of it back (tools/embed tries both); the
+ * says what malloc grants; that it keeps no memory then, and that dq_free gives all of it back (tools/bindings tries both); the
  * inline functions of this file, which test for NULL and are tested; and the C library's heap.
  *
  * What a caller owes, since nothing can check it:

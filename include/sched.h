@@ -42,7 +42,7 @@
  * lines that answer an event are those that the executor's equations give, in their order, and the text that is copied is the
  * text of these lines. What follows of the equations, as that no run starts before it is due and that no two runs of a task
  * overlap, is proved in crates/executor_laws. What is not proved: that sched_free gives all memory back, and that a sched_new
- * does that makes no executor (tools/embed tries both); the inline functions of this file, which test for NULL and are tested;
+ * does that makes no executor (tools/bindings tries both); the inline functions of this file, which test for NULL and are tested;
  * and the C library's heap.
  *
  * What a caller owes, since nothing can check it:

@@ -48,8 +48,8 @@
  * What is proved: each function of the library, named timers_ref_.. below, meets its contract (crates/timers_c/specs/Calls.antt and
  * Many.antt), which says exactly when each answer comes, but for want of memory, what is written and what becomes of the timers; touches
  * no memory but what it is handed and what the timers took; and ends. What the calls are answered is what the executor's equations give
- * for the one history of the calls so far. What is not proved: that timers_free gives all memory back (tools/embed counts); that the
- * members of each structure and the parameters of each function stand here in the library's order (tools/embed compares the members);
+ * for the one history of the calls so far. What is not proved: that timers_free gives all memory back (tools/bindings counts); that the
+ * members of each structure and the parameters of each function stand here in the library's order (tools/bindings compares the members);
  * the inline functions of this file, which test for NULL and are tested; and the C library's heap.
  *
  * What a caller owes, since nothing can check it:

@@ -20,7 +20,7 @@
 //! # Memory
 //!
 //! `dq_ref_new` takes the two tables of a queue and the room that the queue itself lies in, and where one of these is refused
-//! it gives the others back. No other call takes memory. That `dq_ref_free` gives all of it back is no clause: `tools/embed`
+//! it gives the others back. No other call takes memory. That `dq_ref_free` gives all of it back is no clause: `tools/bindings`
 //! counts.
 //!
 //! # Null

@@ -43,7 +43,7 @@
 //!
 //! # Tests
 //!
-//! They are in C, in `examples/embed/tests`: each answer of each call, and each growth refused in turn; `tools/embed` runs them.
+//! They are in C, in `bindings/c/tests`: each answer of each call, and each growth refused in turn; `tools/bindings` runs them.
 #![tactic(auto)]
 
 mod exports;
