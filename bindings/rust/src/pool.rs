@@ -49,6 +49,10 @@
 //! its handle waits for the result. A result is told with the pool's lock held: once a cancel is answered that the task is over,
 //! its result is there, and once the pool is terminated, that of each task is. No thread takes the pool's lock with that of a cell
 //! held.
+//!
+//! A handle that is polled leaves a waker in its task's cell. Whoever tells the result, with the pool's lock held, takes the waker out,
+//! and calls it once that lock is given back: a waker runs code of the program, which may call the pool. A poll looks for the result and
+//! leaves the waker in one step, under the cell's lock, so either it finds the result, or its waker is found.
 
 mod error;
 mod handle;

@@ -13,6 +13,8 @@ fn moves<T: Send + Debug + UnwindSafe + RefUnwindSafe>() {}
 
 fn is_shared<T: Send + Sync + Debug>() {}
 
+fn is_future<F: Future + Send + Unpin>() {}
+
 fn is_error<E: Error + Send + Sync + 'static>() {}
 
 #[test]
@@ -22,6 +24,7 @@ fn what_has_a_slot_moves_and_what_has_a_lock_is_shared() {
     moves::<Timers>();
     is_shared::<ScheduledThreadPool>();
     is_shared::<Handle<Vec<u8>>>();
+    is_future::<Handle<Vec<u8>>>();
 }
 
 #[test]

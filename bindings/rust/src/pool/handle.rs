@@ -4,13 +4,18 @@ use super::result::{JoinError, ResultCell};
 use super::shared::Shared;
 use crate::timers::TaskRef;
 use std::fmt;
+use std::future::Future;
+use std::pin::Pin;
 use std::sync::Arc;
+use std::task::{Context, Poll};
 use std::time::Duration;
 
 /// A task of a pool, by which it is cancelled, and its result is waited for.
 ///
 /// A task goes on where its handle is dropped. A handle may be shared by threads, also by the jobs of its pool; a job that waits
 /// for another one takes up a worker, and one that waits for itself never ends.
+///
+/// A handle is a future of what [`join`](Self::join) answers, for any executor of futures: no thread waits then.
 ///
 /// # Examples
 ///
@@ -28,11 +33,18 @@ pub struct Handle<T> {
     pool: Arc<Shared>,
     task: TaskRef,
     cell: Arc<ResultCell<T>>,
+    /// Whether a waker may stand in the cell.
+    is_polled: bool,
 }
 
 impl<T> Handle<T> {
     pub(super) fn new(pool: Arc<Shared>, task: TaskRef, cell: Arc<ResultCell<T>>) -> Handle<T> {
-        Handle { pool, task, cell }
+        Handle {
+            pool,
+            task,
+            cell,
+            is_polled: false,
+        }
     }
 
     /// Cancels the task, and says whether that had an effect. It has none where the task is over, or was cancelled before. A job
@@ -53,7 +65,7 @@ impl<T> Handle<T> {
         let (cancelled, _job) = self.pool.with(|state, _now| {
             let (cancelled, job) = state.cancel(self.task);
             if cancelled {
-                self.cell.tell(Err(JoinError::Cancelled));
+                state.wake_later(self.cell.tell(Err(JoinError::Cancelled)));
             }
             (cancelled, job)
         });
@@ -134,6 +146,10 @@ impl<T> Handle<T> {
     ///
     /// The task was cancelled, or its job panicked.
     ///
+    /// # Panics
+    ///
+    /// The handle gave the result before, as a future.
+    ///
     /// # Examples
     ///
     /// ```
@@ -143,8 +159,7 @@ impl<T> Handle<T> {
     /// # Ok::<(), Box<dyn std::error::Error>>(())
     /// ```
     pub fn join(self) -> Result<T, JoinError> {
-        self.cell.wait();
-        self.cell.take().expect("it is told")
+        self.cell.take()
     }
 
     /// The same, waiting at most so long.
@@ -207,6 +222,62 @@ impl<T> Handle<T> {
     #[must_use]
     pub fn number(&self) -> u64 {
         self.task.number
+    }
+}
+
+/// The same as [`join`](Handle::join), without a thread that waits. Who polls is woken by the thread that ends the task, which may be
+/// a worker: with none of the pool's locks held, so a waker may call the pool. A future that is dropped leaves its task as it is, and
+/// drops the waker. Once it gave the result, it still says whether the task [is done](Handle::is_done) and whether it
+/// [was cancelled](Handle::is_cancelled).
+///
+/// # Panics
+///
+/// It is polled after it gave the result.
+///
+/// # Examples
+///
+/// ```
+/// use sched::{JoinError, ScheduledThreadPool, TimersError};
+/// use std::time::Duration;
+///
+/// async fn later(pool: &ScheduledThreadPool) -> Result<Result<u32, JoinError>, TimersError> {
+///     Ok(pool.schedule(Duration::from_millis(1), || 6 * 7)?.await)
+/// }
+/// # use std::pin::pin;
+/// # use std::task::{Context, Poll, Wake, Waker};
+/// # struct Unpark(std::thread::Thread);
+/// # impl Wake for Unpark {
+/// #     fn wake(self: std::sync::Arc<Self>) {
+/// #         self.0.unpark();
+/// #     }
+/// # }
+/// # let pool = ScheduledThreadPool::new(1)?;
+/// # let waker = Waker::from(std::sync::Arc::new(Unpark(std::thread::current())));
+/// # let mut answer = pin!(later(&pool));
+/// # loop {
+/// #     if let Poll::Ready(told) = answer.as_mut().poll(&mut Context::from_waker(&waker)) {
+/// #         assert_eq!(told, Ok(Ok(42)));
+/// #         break;
+/// #     }
+/// #     std::thread::park();
+/// # }
+/// # Ok::<(), Box<dyn std::error::Error>>(())
+/// ```
+impl<T> Future for Handle<T> {
+    type Output = Result<T, JoinError>;
+
+    fn poll(mut self: Pin<&mut Self>, context: &mut Context<'_>) -> Poll<Self::Output> {
+        let told = self.cell.poll(context);
+        self.is_polled = told.is_pending();
+        told
+    }
+}
+
+impl<T> Drop for Handle<T> {
+    fn drop(&mut self) {
+        if self.is_polled {
+            self.cell.forget_waker();
+        }
     }
 }
 

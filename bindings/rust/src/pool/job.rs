@@ -6,18 +6,19 @@ use std::convert::Infallible;
 use std::mem;
 use std::panic::{AssertUnwindSafe, catch_unwind};
 use std::sync::Arc;
+use std::task::Waker;
 
 /// The job of a task, whatever it gives. `run` and `drop` call the program, and are called without the pool's lock; `tell` and
-/// `cancel` are called with it, and call nothing.
+/// `cancel` are called with it, and call nothing: who polls the handle comes back, to be woken without the lock.
 pub trait Job: Send {
     /// Runs it once, and says whether it did not panic.
     fn run(&mut self) -> bool;
 
     /// The task is over: the handle has what came of the last run.
-    fn tell(&mut self);
+    fn tell(&mut self) -> Option<Waker>;
 
     /// The task is cancelled: the handle has that.
-    fn cancel(&mut self);
+    fn cancel(&mut self) -> Option<Waker>;
 }
 
 /// A job that runs once.
@@ -46,12 +47,12 @@ impl<F: FnOnce() -> T + Send, T: Send> Job for Once<F, T> {
         matches!(self.result, Some(Ok(_)))
     }
 
-    fn tell(&mut self) {
-        self.cell.tell(self.result.take().expect("it ran"));
+    fn tell(&mut self) -> Option<Waker> {
+        self.cell.tell(self.result.take().expect("it ran"))
     }
 
-    fn cancel(&mut self) {
-        self.cell.tell(Err(JoinError::Cancelled));
+    fn cancel(&mut self) -> Option<Waker> {
+        self.cell.tell(Err(JoinError::Cancelled))
     }
 }
 
@@ -81,13 +82,13 @@ impl<F: FnMut() + Send> Job for Repeated<F> {
         self.panic.is_none()
     }
 
-    fn tell(&mut self) {
+    fn tell(&mut self) -> Option<Waker> {
         let panic = self.panic.take();
-        self.cell.tell(Err(panic.unwrap_or(JoinError::Cancelled)));
+        self.cell.tell(Err(panic.unwrap_or(JoinError::Cancelled)))
     }
 
-    fn cancel(&mut self) {
-        self.cell.tell(Err(JoinError::Cancelled));
+    fn cancel(&mut self) -> Option<Waker> {
+        self.cell.tell(Err(JoinError::Cancelled))
     }
 }
 
@@ -104,7 +105,16 @@ fn panicked(payload: Box<dyn Any + Send>) -> JoinError {
 
 /// Drops what is the program's. Where that panics, the panic goes no further, and its payload, which might panic too, is forgotten.
 pub fn drop_quietly<D>(value: D) {
-    if let Err(payload) = catch_unwind(AssertUnwindSafe(|| drop(value))) {
+    do_quietly(|| drop(value));
+}
+
+/// Wakes who polls, in the same manner.
+pub fn wake_quietly(waker: Waker) {
+    do_quietly(|| waker.wake());
+}
+
+fn do_quietly(call: impl FnOnce()) {
+    if let Err(payload) = catch_unwind(AssertUnwindSafe(call)) {
         mem::forget(payload);
     }
 }

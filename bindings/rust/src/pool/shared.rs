@@ -1,6 +1,6 @@
 //! The lock, and who waits for what: the module `pool` says how.
 
-use super::job::{Job, drop_quietly};
+use super::job::{Job, drop_quietly, wake_quietly};
 use super::state::{State, Wake, When};
 use crate::timers::{TaskRef, TimersError};
 use std::sync::{Condvar, Mutex, MutexGuard};
@@ -42,7 +42,7 @@ impl Shared {
 
     /// Gives the lock back, and wakes whom the calls under it were for.
     fn unlock(&self, mut state: MutexGuard<'_, State>) {
-        let wake = state.take_wake();
+        let (wake, wakers) = state.take_wakes();
         drop(state);
         match wake {
             Wake::Nobody => {}
@@ -52,6 +52,7 @@ impl Shared {
                 self.end.notify_all();
             }
         }
+        wakers.into_iter().for_each(wake_quietly);
     }
 
     /// Makes calls under the lock, at the moment that is handed to them. What they give back is dropped without the lock.

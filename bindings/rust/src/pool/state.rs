@@ -6,6 +6,7 @@ use crate::timers::{
     Counts, Effect, End, Outcome, Phase, Policy, Run, State as Timed, TaskRef, Timers, TimersError,
 };
 use std::mem;
+use std::task::Waker;
 use std::time::Duration;
 
 /// The code of each failure: a job has no other way to fail than a panic.
@@ -32,7 +33,7 @@ pub enum Call {
     Ask,
 }
 
-/// Whom to wake once the lock is given back.
+/// Which threads to wake once the lock is given back.
 #[derive(Clone, Copy, Default, PartialEq, Eq)]
 pub enum Wake {
     #[default]
@@ -62,6 +63,8 @@ pub struct State {
     /// Whether one of those was called, and has not looked for work since.
     called: bool,
     wake: Wake,
+    /// Who polled handles whose tasks are over since the lock was taken.
+    wakers: Vec<Waker>,
     shut: bool,
     terminated: bool,
     recorder: Option<Box<Recorder>>,
@@ -77,6 +80,7 @@ impl State {
             asleep: 0,
             called: false,
             wake: Wake::Nobody,
+            wakers: Vec::new(),
             shut: false,
             terminated: false,
             recorder: None,
@@ -93,9 +97,14 @@ impl State {
         self.recorder.as_ref().map(|recorder| recorder.recording())
     }
 
-    /// Whom to wake, who is not told again.
-    pub fn take_wake(&mut self) -> Wake {
-        mem::take(&mut self.wake)
+    /// Whom to wake, who is not told again: threads, and who polled handles.
+    pub fn take_wakes(&mut self) -> (Wake, Vec<Waker>) {
+        (mem::take(&mut self.wake), mem::take(&mut self.wakers))
+    }
+
+    /// Who polled a handle is woken once the lock is given back.
+    pub fn wake_later(&mut self, waker: Option<Waker>) {
+        self.wakers.extend(waker);
     }
 
     pub fn is_shut(&self) -> bool {
@@ -209,7 +218,7 @@ impl State {
         well: bool,
     ) -> Option<Box<dyn Job>> {
         let End { task, outcome, .. } = self.end_run(now, worker, well);
-        match outcome {
+        let waker = match outcome {
             Outcome::Again(due) => {
                 self.put(task, job);
                 self.depose(due);
@@ -217,7 +226,8 @@ impl State {
             }
             Outcome::Done(_) | Outcome::Failed(_) => job.tell(),
             Outcome::Dropped | Outcome::Ended => job.cancel(),
-        }
+        };
+        self.wake_later(waker);
         self.look_for_the_end();
         Some(job)
     }
@@ -310,7 +320,7 @@ impl State {
         for gone in self.timers.ended() {
             let job = self.jobs[gone.task.slot as usize].take();
             let mut job = job.expect("a task that waits has its job");
-            job.cancel();
+            self.wakers.extend(job.cancel());
             ended.push(job);
         }
         self.look_for_the_end();
