@@ -3,3 +3,4 @@ pub mod Drawings
 pub mod Readings
 pub mod OneLines
 pub mod Lived
+pub mod Lints

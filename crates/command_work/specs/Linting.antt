@@ -14,7 +14,7 @@ use Rattle.plan_compile.specs.PlanCalls.{calls_of_plan}
 use Rattle.plan_read.specs.Plans.{PlanTree}
 use Rattle.plan_read.specs.Texts.{TextWrites, TextFails}
 use Rattle.plan_read.specs.declared.faults.PlanFault.{PlanFault}
-use Rattle.plan_warnings.specs.Warnings.{warnings_told}
+use Rattle.plan_warnings.specs.Units.{warnings_told}
 use Rattle.command_work.specs.Fronts.{Reads, most_of_plan, most_of_trace}
 use Rattle.command_line.specs.declared.arguments.LintArguments.{LintArguments}
 use Rattle.command_work.specs.declared.lint.Beside.{Beside}

@@ -6,7 +6,6 @@ ghost use Rattle.plan_read.specs.declared.faults.PlanFault.{PlanFault};
 ghost use Rattle.command_work.specs.Fronts.{IsReadOf, most_of_trace};
 ghost use Rattle.command_work.specs.Linting.{AsksUncounted, BesideRight, BesideWrong, Finds, FindsAsked, IsFileOf, IsUncounted, asked_of};
 ghost use Rattle.command_work.specs.declared.error.ProgramError.TheVariants.{LintOptions, Run};
-ghost use Rattle.command_work.specs.declared.lint.Looked.TheVariants.{Plan};
 ghost use Rattle.sched_engine.specs.declared.report.RunError.TheVariants.{Memory, Workers};
 
 use crate::error::ProgramError;
@@ -102,9 +101,10 @@ fn plan_wrong<P: Source + Drop, O: Fn(&str) -> io::Result<P> + Drop>(
 ) -> Result<Found, ProgramError>
     requires { O.IsAlwaysCallable open_file }
     ensures finds { IfOk result
-        (Finds (IsReadOf P.remaining P.failed P.fruitless) (O.post open_file) (Plan name beside)) }
+        (Finds (IsReadOf P.remaining P.failed P.fruitless) (O.post open_file)
+        (Looked.Plan name.entry beside.entry)) }
     ensures fault { IfErr result
-        (λ e. (e ≡ Run Memory) ⊎ ((e ≡ Run Workers) × IsUncounted beside)) }
+        (λ e. (e ≡ Run Memory) ⊎ ((e ≡ Run Workers) × IsUncounted beside.entry)) }
 {
     let text = match read_file(heap, name, open_file(name), MOST_OF_PLAN)? {
         Ok(text) => text,
@@ -145,11 +145,11 @@ fn beside_wrong<P: Source + Drop, O: Fn(&str) -> io::Result<P> + Drop>(
     ensures finds { IfOk result
         (λ told. MatchOption told
         (BesideRight (IsFileOf (IsReadOf P.remaining P.failed P.fruitless) (O.post open_file) most_of_trace)
-        plan.now beside)
+        plan.now beside.entry)
         (λ line. BesideWrong (IsFileOf (IsReadOf P.remaining P.failed P.fruitless) (O.post open_file) most_of_trace)
-        plan.now beside)) }
+        plan.now beside.entry)) }
     ensures fault { IfErr result
-        (λ e. (e ≡ Run Memory) ⊎ ((e ≡ Run Workers) × IsUncounted beside)) }
+        (λ e. (e ≡ Run Memory) ⊎ ((e ≡ Run Workers) × IsUncounted beside.entry)) }
 {
     match beside {
         Beside::Nothing => Ok(None),

@@ -11,7 +11,7 @@ ghost use Rattle.plan_reasons.specs.Told.{IsAtKeyOfKind};
 ghost use Rattle.plan_reasons.specs.declared.found.Found.TheVariants.{Nothing};
 ghost use Rattle.line_reasons.specs.Events.{AreEvents, IsFirstOther};
 ghost use Rattle.line_reasons.specs.LiveLines.{AreLiveLines, IsFirstNotLive};
-ghost use Rattle.plan_warnings.specs.Warnings.{warnings_told};
+ghost use Rattle.plan_warnings.specs.Units.{warnings_told};
 ghost use Rattle.plan_compile.specs.PlanCalls.{calls_of_plan};
 ghost use Rattle.executor_model.specs.Counts.{IsWorkerCount};
 ghost use Rattle.trace_check.specs.Findings.{Breaks, Conforms};

@@ -1,4 +1,4 @@
-use Rattle.std.proofs.Common.{inl, inr}
+use Rattle.std.proofs.Common.{rules, inl, inr, length, ◌≡◌}
 use Rattle.command_work.proofs.lint_lines.calls_wrong.Goals as goal
 
 pub returns-in-Err-clause-finds : goal.returns-in-Err-clause-finds
@@ -9,4 +9,6 @@ returns-in-Some-clause-finds g c =
     inr (c.in-Ok.text.items, rw c.in-Ok.is at c.in_ok-text.ensures.text, λ are. let none = (rw c.deref.ensures.value at c.in-Some.ensures.only) are in cc)
 
 pub returns-clause-finds : goal.returns-clause-finds
-returns-clause-finds g c = (c.in-Ok.text.items, rw c.in-Ok.is at c.in_ok-text.ensures.text, rw c.deref.ensures.value at c.in-None.ensures.fine)
+returns-clause-finds g c =
+    let none : length c.new.result.items ≡ 0 = search rules in
+    ((c.in-Ok.text.items, rw c.in-Ok.is at c.in_ok-text.ensures.text, rw c.deref.ensures.value at c.in-None.ensures.fine), none)
