@@ -1,19 +1,31 @@
 //! The calls of the executor that the lines of calls make.
-ghost use Rattle.std.specs.Prelude.{◌≡◌, ◌<◌, ◌≤◌, MatchOption};
+ghost use Rattle.std.specs.Prelude.{◌≡◌, ◌≤◌, MatchOption};
 ghost use Rattle.queue_code.specs.declared.call.CodeCall.TheVariants as codes;
-ghost use Rattle.call_text.specs.Spelling.{FitsPeriod, FitsSpan};
+ghost use Rattle.call_text.specs.declared.call.CallLine.TheVariants as asked;
+ghost use Rattle.call_text.specs.Spelling.{FitsCall, FitsPeriod, FitsSpan};
 ghost use Rattle.call_journal.specs.MadeCalls as made;
-ghost use Rattle.live_plain.specs.own.Scripts.{FitsIn};
+ghost use Rattle.live_plain.specs.own.Scripts.{NamesGiven};
 
 use call_text::CallLine;
 use queue_code::CodeCall;
 use sched_time::{LONGEST, Span, Timing, Unit, span};
 
+/// The number that a call cancels, where that was not given out, as so many were.
+pub(crate) fn not_given(numbers: u32, call: CallLine) -> Option<u32>
+    ensures { MatchOption result (NamesGiven numbers call)
+        (λ task. (call ≡ asked.Cancel task) × (numbers ≤ task)) }
+{
+    match call {
+        CallLine::Cancel(task) if task >= numbers => Some(task),
+        _ => None,
+    }
+}
+
 /// The call that a line makes, where so many numbers were given out: a submission has the next one. `None` where the call does not
-/// fit, or cancels a number that was not given out.
+/// fit.
 pub(crate) fn code_of(numbers: u32, call: CallLine) -> Option<CodeCall>
-    ensures { MatchOption result (FitsIn numbers call → ⊥)
-        (λ code. (code ≡ made.code_of numbers call) × FitsIn numbers call) }
+    ensures { MatchOption result (FitsCall call → ⊥)
+        (λ code. (code ≡ made.code_of numbers call) × FitsCall call) }
 {
     match call {
         CallLine::Schedule(delay) => submission(numbers, Timing::Once, delay),
@@ -24,7 +36,7 @@ pub(crate) fn code_of(numbers: u32, call: CallLine) -> Option<CodeCall>
         CallLine::Fixed(first, delay) => {
             submission(numbers, Timing::Fixed(period_of(delay)?), first)
         }
-        CallLine::Cancel(task) => cancel(numbers, task),
+        CallLine::Cancel(task) => Some(CodeCall::Cancel { task }),
         CallLine::Policy(which, value) => Some(CodeCall::SetPolicy { which, value }),
         CallLine::Shutdown => Some(CodeCall::Shutdown),
         CallLine::ShutdownNow => Some(CodeCall::ShutdownNow),
@@ -45,17 +57,6 @@ fn submission(task: u32, timing: Timing, delay: u64) -> Option<CodeCall>
         timing,
         delay,
     })
-}
-
-/// The cancel of a task, and `None` where its number was not given out.
-fn cancel(numbers: u32, task: u32) -> Option<CodeCall>
-    ensures { MatchOption result (numbers ≤ task)
-        (λ code. (code ≡ codes.Cancel task) × (task < numbers)) }
-{
-    if task >= numbers {
-        return None;
-    }
-    Some(CodeCall::Cancel { task })
 }
 
 /// The period, or the fixed delay, of so many nanoseconds, and `None` where they are none or above the limit.

@@ -12,8 +12,13 @@
 //! let told = trace_of_lines(alloc, 1, &[none, clock, submit, cancel])?;
 //! assert_eq!(rt; told.as_ref().map(|lines| lines.len()), Some(4));
 //!
-//! // No number was given out.
-//! assert!(rt; trace_of_lines(alloc, 1, &[clock, cancel])?.is_none());
+//! // The number 0 was not given out: a call that cancels it is as the event, also behind the last moment of calls.
+//! let last = LiveLine::Event(Event::Clock(LONGEST));
+//! let none_told = trace_of_lines(alloc, 1, &[last, cancel])?;
+//! assert_eq!(rt; none_told.map(|lines| lines.len()), Some(2));
+//!
+//! // Behind that no call is made.
+//! assert!(rt; trace_of_lines(alloc, 1, &[last, submit])?.is_none());
 //! ```
 //!
 //! [`trace_of_lines`] gives the lines of the trace of some lines of a live input, as `run` of `live_engine` writes them.
@@ -26,7 +31,8 @@
 //! added behind others, once things have happened that look at none of them.
 //!
 //! A call is made at the moment that comes next, which is now, or 1 ns after the last accepted clock, whichever is later. A cancel
-//! from outside of a number that was not given out yet names no task in the script, also none that is given that number later.
+//! from outside of a number that was not given out yet names no task in the script, also none that is given that number later. A
+//! cancel by a call of such a number is as one from outside.
 //!
 //! That a live executor and the core of a plan with its calls give the same lines is a law here,
 //! [`a_live_executor_gives_the_lines_of_a_plan`].
@@ -39,8 +45,7 @@
 //! # Errors
 //!
 //! `trace_of_lines` fails only where there is no memory. It answers `None` exactly where a line is not plain: a call with a number
-//! that is out of its range, a cancel by a call of a number that was not given out, a call once 65,536 were made, and a call whose
-//! moment would be above 2^62 ns.
+//! that is out of its range, a call once 65,536 were made, and a call whose moment would be above 2^62 ns.
 //!
 //! # Memory and cost
 //!

@@ -2,7 +2,7 @@
 ghost use Rattle.std.specs.Prelude.{◌≡◌};
 ghost use Rattle.queue_code.specs.Calls as calls;
 
-use crate::call_codes::code_of;
+use crate::call_codes::{code_of, not_given};
 use call_text::CallLine;
 use executor_model::{Event, Happening, Line};
 use executor_plain::trace_of_happenings;
@@ -51,10 +51,10 @@ impl<A: Allocator + Copy> Script<A> {
     ghost use Rattle.queue_code.specs.Calls.{IsPlanned, most_calls_of_code};
     ghost use Rattle.executor_model.specs.Answers.{is_accepted};
     ghost use Rattle.executor_model.specs.Flows.{history_from, lines_of};
-    ghost use Rattle.live_engine.specs.LiveLines.{LiveHistory, after_line};
+    ghost use Rattle.live_engine.specs.LiveLines.{LiveHistory, after_line, after_meant, meant_in};
     ghost use Rattle.live_engine.specs.declared.live_line.LiveLine.TheVariants as l;
     ghost use Rattle.live_plain.specs.PlainLines.{IsPlain};
-    ghost use Rattle.live_plain.specs.own.Scripts.{Shows, blank, happening_there, with_call, with_event};
+    ghost use Rattle.live_plain.specs.own.Scripts.{NamesGiven, Shows, blank, happening_there, with_call, with_event};
 
     /// A script before any line.
     pub(crate) fn new(alloc: A) -> Script<A>
@@ -73,7 +73,7 @@ impl<A: Allocator + Copy> Script<A> {
     pub(crate) fn take(&mut self, line: LiveLine) -> Result<bool, AllocError>
         ensures plain { IfOk result
             (λ taken. (workers : ℕ) (so_far : LiveHistory) → Shows workers so_far self.old
-            → (IsTrue taken ↔ IsPlain so_far line)) }
+            → (IsTrue taken ↔ IsPlain so_far (meant_in so_far line))) }
         ensures shows { IfOk result
             (λ taken. (workers : ℕ) (so_far : LiveHistory) → Shows workers so_far self.old
             → IsTrue taken → Shows workers (after_line workers so_far line) self.new) }
@@ -95,14 +95,31 @@ impl<A: Allocator + Copy> Script<A> {
         Ok(true)
     }
 
-    /// Takes the line of a call. `false` where it is not plain.
+    /// Takes the line of a call: where it cancels a number that was not given out, it is that of the event. `false` where it is not
+    /// plain.
     fn take_call(&mut self, call: CallLine) -> Result<bool, AllocError>
+        ensures plain { IfOk result
+            (λ taken. (workers : ℕ) (so_far : LiveHistory) → Shows workers so_far self.old
+            → (IsTrue taken ↔ IsPlain so_far (meant_in so_far (l.Call call)))) }
+        ensures shows { IfOk result
+            (λ taken. (workers : ℕ) (so_far : LiveHistory) → Shows workers so_far self.old
+            → IsTrue taken → Shows workers (after_line workers so_far (l.Call call)) self.new) }
+    {
+        match not_given(self.numbers, call) {
+            Some(task) => self.take_event(Event::Cancel(task)),
+            None => self.take_made(call),
+        }
+    }
+
+    /// Takes the line of a call that is made, if it is plain, and else answers `false`.
+    fn take_made(&mut self, call: CallLine) -> Result<bool, AllocError>
+        requires given { NamesGiven self.old.numbers call }
         ensures plain { IfOk result
             (λ taken. (workers : ℕ) (so_far : LiveHistory) → Shows workers so_far self.old
             → (IsTrue taken ↔ IsPlain so_far (l.Call call))) }
         ensures shows { IfOk result
             (λ taken. (workers : ℕ) (so_far : LiveHistory) → Shows workers so_far self.old
-            → IsTrue taken → Shows workers (after_line workers so_far (l.Call call)) self.new) }
+            → IsTrue taken → Shows workers (after_meant workers so_far (l.Call call)) self.new) }
     {
         let moment = self.moment.max(self.earliest);
         if !self.has_room(moment) {

@@ -12,8 +12,8 @@ use std::alloc::{AllocError, Allocator};
 /// are made while it runs. The workers may be any number here, also one that an executor refuses.
 ///
 /// `None` where some line is not plain: it is a call with a span above 2^62 nanoseconds, or with a period or a fixed delay that is
-/// 0 or above that, or a cancel by a call of a number that was not given out, or a call once 65,536 were made, or a call
-/// whose moment would be above 2^62. A growth that is refused for want of memory is the only error.
+/// 0 or above that, or a call once 65,536 were made, or a call whose moment would be above 2^62. A growth that is refused for want
+/// of memory is the only error.
 pub fn trace_of_lines<A: Allocator + Copy>(
     alloc: A,
     workers: u8,

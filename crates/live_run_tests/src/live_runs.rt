@@ -78,6 +78,27 @@ fn a_cancel_of_a_number_given_out_later_cancels_nothing(rt: HostRuntime) {
     )
 }
 
+#[test]
+fn a_call_that_cancels_a_number_not_given_out_is_the_event(rt: HostRuntime) {
+    traces(
+        &rt,
+        "call cancel 1\nclock 3\ncall schedule 5\ncall cancel 1\ncall execute\ncall cancel 1\n\
+         call cancel 4294967295\ncall ask\n",
+        "0 error no task\n3 clock\n4 submit 0 schedule due 9\n4 error no task\n\
+         4 submit 1 schedule due 4\n4 cancel 1 yes\n4 error no task\n\
+         4 ask queue 2 running 0 shutdown no terminated no\n",
+    )
+}
+
+#[test]
+fn a_cancel_of_a_number_not_given_out_has_room_behind_the_last_moment(rt: HostRuntime) {
+    traces(
+        &rt,
+        "clock 4611686018427387904\ncall cancel 0\n",
+        "4611686018427387904 clock\n4611686018427387904 error no task\n",
+    )
+}
+
 /// The trace of a first line that is taken.
 const FIRST: &str = "0 submit 0 schedule due 0\n";
 
@@ -85,8 +106,8 @@ const FIRST: &str = "0 submit 0 schedule due 0\n";
 const REFUSED: &[(&str, u64, &str)] = &[
     ("call execute\nfoo\nclock 1\n", 2, FIRST),
     ("call execute\ncall", 2, FIRST),
-    ("call cancel 0\n", 1, ""),
-    ("call execute\ncall cancel 1\n", 2, FIRST),
+    ("call cancel 00\n", 1, ""),
+    ("call cancel 4294967296\n", 1, ""),
     ("call rate 1 0\n", 1, ""),
     ("clock 01\n", 1, ""),
 ];
@@ -114,8 +135,8 @@ fn workers_are_1_to_64(rt: HostRuntime) {
     }
 }
 
-/// Two calls that are made at the moment 4, among events.
-const INPUT_OF_CALLS: &[u8] = b"clock 3\ncall shutdown\ncancel 0\ncall schedule 7\n";
+/// Two calls that are made at the moment 4, among events, and a cancel that is no call.
+const INPUT_OF_CALLS: &[u8] = b"clock 3\ncall shutdown\ncancel 0\ncall cancel 0\ncall schedule 7\n";
 
 /// These calls.
 const CALLS: &[MadeCall] = &[
@@ -178,7 +199,7 @@ fn refused(alloc: Global, input: &str, most: usize, growth: u64) -> (bool, Answe
 
 /// An input whose last line is not taken, the lines before it, and why it is not.
 const NOT_TAKEN: &[(&str, &str, RunError)] = &[
-    ("", "call cancel 0\n", RunError::EventLine(1)),
+    ("", "call cancel 00\n", RunError::EventLine(1)),
     (
         "clock 4611686018427387904\n",
         "clock 4611686018427387904\ncall ask\n",
@@ -201,13 +222,24 @@ fn asks_alike(
     assert!(rt; answer == Err(told), "{input}: {growth}: {answer:?}");
 }
 
-/// A line that may not come, and one for which there is no room, ask for no memory.
+/// A line that is none, and one for which there is no room, ask for no memory.
 #[test]
 fn a_line_that_is_not_taken_asks_for_no_memory(rt: HostRuntime) {
     for (before, input, error) in NOT_TAKEN {
         for growth in 1..20u64 {
             asks_alike(&rt, before, input, growth, *error);
         }
+    }
+}
+
+/// A call that cancels a number not given out asks for no memory, as it is an event.
+#[test]
+fn a_cancel_of_a_number_not_given_out_asks_for_no_memory(rt: HostRuntime) {
+    for growth in 1..20u64 {
+        let (is_met_before, _, _) = refused(rt.alloc(), "", 65_536, growth);
+        let (is_met, answer, _) = refused(rt.alloc(), "call cancel 0\n", 65_536, growth);
+        assert!(rt; is_met == is_met_before, "{growth}");
+        assert!(rt; is_met == answer.is_err(), "{growth}: {answer:?}");
     }
 }
 

@@ -9,6 +9,9 @@ $ sched live --workers 1
 > 6 submit 1 rate due 6⏎6 clock⏎6 finish 0 task 0 run 0 done 7⏎6 start 0 task 1 run 0 due 6
 > 7 cancel 1 yes
 $ sched live --workers 1
+< call cancel 0⏎call execute⏎call cancel 0
+> 0 error no task⏎0 submit 0 schedule due 0⏎0 cancel 0 yes
+$ sched live --workers 1
 
 $ sched live --workers=3
 < start 2⏎start 3⏎call ask
@@ -23,9 +26,6 @@ $ sched live --workers 1
 with closed output
 < call execute⏎call stop
 ! sched: write fault
-$ sched live --workers 1
-< call cancel 0
-! sched: event line 1
 
 # LEAVES_THE_PLAN_OF_THE_CALLS, also of those before a fault of the run, whose line is told
 $ sched live --workers 1 --plan calls.toml
@@ -33,8 +33,8 @@ with new file
 file version = 2
 $ sched live --workers 1 --plan calls.toml
 with new file
-< call schedule 5⏎clock 5
-> 0 submit 0 schedule due 5
+< call cancel 0⏎call schedule 5⏎clock 5
+> 0 error no task⏎0 submit 0 schedule due 5
 > 5 clock
 file version = 2⏎⏎[[block]]⏎⏎[[block.call]]⏎delay = 5⏎delay_unit = \"ns\"⏎name = \"t0\"⏎op = \"schedule\"
 $ sched live --workers 1 --plan calls.toml

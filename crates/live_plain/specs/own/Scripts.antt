@@ -12,7 +12,6 @@ use Rattle.executor_model.specs.Flows.{happening_of}
 use Rattle.executor_laws.specs.Additions.{AllLookBelow}
 use Rattle.call_text.specs.declared.call.CallLine.{CallLine}
 use Rattle.call_text.specs.declared.call.CallLine.TheVariants as call
-use Rattle.call_text.specs.Spelling.{FitsCall}
 use Rattle.live_engine.specs.declared.live_line.LiveLine.{LiveLine}
 use Rattle.live_core.specs.Lives.{after_clock}
 use Rattle.live_engine.specs.LiveLines.{LiveHistory, live_history}
@@ -68,10 +67,10 @@ with_call s p = record s {
   moment = p.0;
 }
 
--- a call fits, and where it cancels a task, the task's number was given out, as so many were
-abbrev pub FitsIn : ℕ → CallLine → Type 0
-FitsIn numbers (call.Cancel task) = task < numbers
-FitsIn numbers made = FitsCall made
+-- where a call cancels a task, the task's number was given out, as so many were
+abbrev pub NamesGiven : ℕ → CallLine → Type 0
+NamesGiven numbers (call.Cancel task) = task < numbers
+NamesGiven numbers made = Unit {0}
 
 -- ---- what it shows
 

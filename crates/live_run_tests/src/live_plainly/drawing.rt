@@ -65,8 +65,8 @@ impl Dice {
         match self.below(16) {
             0 => LiveLine::Call(self.rare_call()),
             1 => LiveLine::Call(self.policy()),
-            2 if self.tasks > 0 => LiveLine::Call(CallLine::Cancel(self.task())),
-            3 => LiveLine::Event(Event::Cancel(self.below(self.tasks.saturating_add(2)))),
+            2 => LiveLine::Call(CallLine::Cancel(self.task())),
+            3 => LiveLine::Event(Event::Cancel(self.task())),
             4 | 5 | 6 => LiveLine::Event(self.clock()),
             7 | 8 | 9 | 10 | 11 => LiveLine::Event(Event::Start(self.worker())),
             _ => LiveLine::Event(Event::Finish(self.worker(), self.ending())),
@@ -103,9 +103,9 @@ impl Dice {
         }
     }
 
-    /// A task that was submitted.
+    /// A task that was submitted, or one of the next two.
     fn task(&mut self) -> u32 {
-        self.below(self.tasks.max(1))
+        self.below(self.tasks.saturating_add(2))
     }
 
     /// The clock goes on by 0 to 3 ns, or sometimes back.

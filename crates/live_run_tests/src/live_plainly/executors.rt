@@ -25,13 +25,16 @@ pub fn trace_of_executor(
     Ok(Some(told))
 }
 
-/// The answer to a line, and `None` where it is a call that is refused.
+/// The answer to a line, and `None` where it is a call that is refused. A call that cancels a number not given out is the event.
 fn answer_to<A: Allocator>(
     executor: &mut ScheduledExecutor<A>,
     line: LiveLine,
 ) -> Result<Option<Answer>, Fail> {
     match line {
         LiveLine::Event(event) => Ok(Some(meet(executor, event)?)),
+        LiveLine::Call(CallLine::Cancel(task)) if u64::from(task) >= executor.numbers() => {
+            Ok(Some(meet(executor, Event::Cancel(task))?))
+        }
         LiveLine::Call(call) => match make(executor, call) {
             Ok(answer) => Ok(Some(answer)),
             Err(CallError::Memory) => Err(CallError::Memory.into()),

@@ -39,12 +39,13 @@ fn spans_and_periods_out_of_range(rt: HostRuntime) -> Result<(), Fail> {
 
 /// Lines, and how many they are told.
 const MOMENTS: &[(&str, Option<usize>)] = &[
-    // Cancels of numbers that were not given out. That of an event is plain.
-    ("call cancel 0\n", None),
+    // Cancels, also of numbers that were not given out: those of calls are events then.
+    ("call cancel 0\n", Some(1)),
     ("call execute\ncall cancel 0\n", Some(2)),
-    ("call execute\ncall cancel 1\n", None),
-    ("call execute\ncall cancel 4294967295\n", None),
+    ("call execute\ncall cancel 1\n", Some(2)),
+    ("call execute\ncall cancel 4294967295\n", Some(2)),
     ("call execute\ncancel 4294967295\n", Some(2)),
+    ("clock 4611686018427387904\ncall cancel 0\n", Some(2)),
     // Calls whose moment is too late. A clock past 2^62 is answered by an error.
     (
         "clock 4611686018427387903\ncall execute\ncall execute\n",

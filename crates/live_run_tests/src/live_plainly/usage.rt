@@ -5,6 +5,7 @@ use call_text::CallLine;
 use executor_model::Event;
 use live_engine::LiveLine;
 use live_plain::trace_of_lines;
+use sched_time::LONGEST;
 use std::process::Abort;
 use std::test::Fail;
 
@@ -24,8 +25,13 @@ fn the_page_is_run(rt: HostRuntime) -> Result<(), Fail> {
     let told = trace_of_lines(alloc, 1, &[none, clock, submit, cancel])?;
     assert_eq!(rt; told.as_ref().map(|lines| lines.len()), Some(4));
 
-    // No number was given out.
-    assert!(rt; trace_of_lines(alloc, 1, &[clock, cancel])?.is_none());
+    // The number 0 was not given out: a call that cancels it is as the event, also behind the last moment of calls.
+    let last = LiveLine::Event(Event::Clock(LONGEST));
+    let none_told = trace_of_lines(alloc, 1, &[last, cancel])?;
+    assert_eq!(rt; none_told.map(|lines| lines.len()), Some(2));
+
+    // Behind that no call is made.
+    assert!(rt; trace_of_lines(alloc, 1, &[last, submit])?.is_none());
     // end of example
     let lines = told.ok_or("no lines")?;
     assert!(rt; text_of(alloc, &lines)?.as_slice() == TOLD);

@@ -1,19 +1,18 @@
 -- Of the calls that come later nothing is seen yet, so both tell of one history.
-use Rattle.std.proofs.Common.{◌≡◌, ℕ, ◌≤◌, List, [], ◌∷◌, ◌++◌, length, refl, sym, ap, ◌∙◌, arith, subst}
+use Rattle.std.proofs.Common.{◌≡◌, ℕ, ◌≤◌, List, [], ◌∷◌, ◌++◌, length, sym, ap, ◌∙◌, arith, subst}
 use Rattle.std.specs.List.{All}
 use Rattle.std.proofs.lemmas.List.Elements.{All-nil, All-cons, All-head, All-tail}
 use Rattle.queue_code.specs.Calls.{Planned, IsOrderly, submits_task, task_count}
 use Rattle.executor_model.specs.Histories.{HistoryEntry, happenings, IsHistoryOf}
-use Rattle.executor_model.specs.State.{State, after}
+use Rattle.executor_model.specs.State.{after}
 use Rattle.executor_model.specs.Flows.{lines_of}
 use Rattle.executor_model.proofs.Flowing.{how_many-le, one_answer}
 use Rattle.executor_laws.specs.Additions.{AllLookBelow, StandsFor}
 use Rattle.executor_laws.proofs.Adding.{many_calls_may_be_added}
 use Rattle.task_table.specs.Tables as tables
-use Rattle.live_core.specs.Lives.{LiveView, never}
+use Rattle.live_core.specs.Lives.{never}
 use Rattle.live_core.proofs.Making.{all_look_higher}
 use Rattle.executor_core.specs.CoreView as cores
-use Rattle.live_plain.specs.SameLines.{HadTheSame}
 use Rattle.live_plain.proofs.laws.a_live_executor_gives_the_lines_of_a_plan.Goals as goal
 
 -- what looks at no call from the least moment on looks at none of these
