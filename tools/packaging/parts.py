@@ -26,7 +26,7 @@ HEADERS = ("delay_queue.h", "sched.h", "sched_version.h", "timers.h")
 LIBRARY_CRATES = list(library.LIBRARIES)
 
 # The tracked files of the examples that a package has, as `git ls-files` names them.
-EXAMPLES = ("examples", ":!examples/embed/python", ":!examples/embed/rust", ":!examples/embed/c/run*")
+EXAMPLES = ("examples", ":!examples/embed/python", ":!examples/embed/rust", ":!examples/embed/tokio", ":!examples/embed/c/run*")
 MEASURED = "Measured: the versions of the C library's symbols that each file takes, and each of its instructions.\n\n"
 
 

@@ -28,6 +28,8 @@ PLACES = [
     ("crates/program_tests/src/help.rt", r"(?<=--version\nsched )\d+\.\d+\.\d+(?= )", "{0}.{1}.{2}"),
     ("bindings/rust/Cargo.toml", r'(?<=name = "sched"\nversion = ")[^"]*', "{0}.{1}.{2}"),
     ("bindings/rust/Cargo.lock", r'(?<=name = "sched"\nversion = ")[^"]*', "{0}.{1}.{2}"),
+    ("bindings/rust/tokio/Cargo.toml", r'(?<=name = "sched-tokio"\nversion = ")[^"]*', "{0}.{1}.{2}"),
+    ("bindings/rust/tokio/Cargo.toml", r'(?<=sched = \{ version = ")[^"]*', "{0}.{1}.{2}"),
     ("examples/embed/rust/Cargo.lock", r'(?<=name = "sched"\nversion = ")[^"]*', "{0}.{1}.{2}"),
 ]
 
