@@ -28,7 +28,7 @@ from tools import ToolError, output
 
 # The programs in Python that the wheel is tried with, and what each writes.
 PYTHON_PROGRAMS = TOP / "examples" / "embed" / "python"
-PYTHON_EXAMPLES = {"heartbeat_pool.py": "heartbeat_pool.txt", "debounce.py": "debounce.txt"}
+PYTHON_EXAMPLES = {name: name.replace(".py", ".txt") for name in ("heartbeat_pool.py", "debounce.py", "fetch_asyncio.py")}
 # Writes all fields of what an installed package says of itself.
 METADATA_PROGRAM = """\
 import importlib.metadata, json, sys
