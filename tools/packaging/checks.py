@@ -11,6 +11,7 @@ from pathlib import Path
 from typing import Any
 
 import help_text
+import pages as package_pages
 from completions import places
 from help_text import Command, Program
 from parts import HEADERS
@@ -109,6 +110,14 @@ def pages(installed: Installed) -> None:
         expect(output(["sh", "-c", script, "sh", page], environment=installed.environment), "")
         if shutil.which("mandoc"):
             expect(output(["mandoc", "-Tlint", "-Wwarning", page], environment=installed.environment), "")
+
+
+def readme(file: Path) -> None:
+    """A page to begin with is there, has no word of the toolchain, and leads to nothing that is not there."""
+    text = file.read_text()
+    lost = [name for name in package_pages.named(text) if not (file.parent / name).is_file()]
+    if package_pages.TOOLCHAIN.search(text) or lost:
+        raise ToolError(f"{file} names the toolchain, or what is not there: {lost}")
 
 
 def has_python(installed: Installed) -> bool:

@@ -4,6 +4,7 @@ from __future__ import annotations
 
 from pathlib import Path
 
+import pages
 import parts as made
 from library import TOP
 from parts import LIBRARY_CRATES, Parts
@@ -14,7 +15,11 @@ SOURCE = TOP / "bindings" / "rust"
 PROGRAMS = TOP / "examples" / "embed" / "rust"
 
 # The files of the crate, as patterns below its folder, and the folder in which it looks for archives.
-FILES = ("Cargo.toml", "Cargo.lock", "README.md", "build.rs", "src/**/*.rs", "tests/*.rs")
+FILES = ("Cargo.toml", "Cargo.lock", "build.rs", "src/**/*.rs", "tests/*.rs")
+# Those of the crate for tokio, which stands in a folder of it.
+TOKIO = "tokio"
+TOKIO_FILES = ("Cargo.toml", "src/**/*.rs", "tests/*.rs")
+README = "README.md"
 ARCHIVES = "archives"
 
 
@@ -34,8 +39,9 @@ def matching(folder: Path, pattern: str) -> Tree:
 def tree(parts: Parts) -> Tree:
     """All files."""
     found = {f"examples/{name}": entry for name, entry in matching(PROGRAMS / "src" / "bin", "*.rs").items()}
-    for pattern in FILES:
+    for pattern in [*FILES, *(f"{TOKIO}/{name}" for name in TOKIO_FILES)]:
         found |= matching(SOURCE, pattern)
+    found |= {name: pages.page(SOURCE / name) for name in (README, f"{TOKIO}/{README}")}
     found[f"{ARCHIVES}/libsched.a"] = parts.archive
     found["NOTICES"] = made.notices(LIBRARY_CRATES)
     found["MACHINES"] = File(made.library_machines(parts).encode())

@@ -14,6 +14,7 @@ from dataclasses import dataclass
 from pathlib import Path
 
 import licences
+import pages
 import parts as made
 from library import TOP
 from machine import Machine
@@ -23,6 +24,7 @@ from tree import File, Tree, checksums, compressed, copied, files, written
 
 PLACES = Places("usr/", "usr/lib/x86_64-linux-gnu", "vendor-completions")
 REVISION = "1"
+SOURCE = "sched"
 ARCHITECTURE = "amd64"
 # What refuses to be set up on a processor below level 2. There is none for the levels above.
 LEVEL_2 = "sse4.2-support"
@@ -50,11 +52,6 @@ def version(parts: Parts) -> str:
     return f"{parts.version}-{REVISION}"
 
 
-def maintainer() -> str:
-    """Who made the last commit."""
-    return output(["git", "-C", TOP, "log", "-1", "--format=%an <%ae>"]).strip()
-
-
 def runs_on(machine: Machine) -> list[str]:
     """The packages without which a program does not run on a machine."""
     return [f"libc6 (>= {machine.glibc_text})", *([LEVEL_2] if machine.level > 1 else [])]
@@ -67,10 +64,13 @@ def told(licence: str) -> str:
     return licence
 
 
-def copyright_text(crates: list[str]) -> str:
+def copyright_text(parts: Parts, crates: list[str]) -> str:
     """The licences of a package."""
     text = licences.notices(crates, told) if crates else licences.OWN_ALONE
-    return f"""Sources: the repository of sched. It names no holder of the copyright. Its commits are by {maintainer()}.
+    year = time.gmtime(parts.moment).tm_year
+    return f"""Sources: the repository of sched. Its commits are by {parts.maintainer}.
+
+Copyright {year}. Whose it is, the repository does not say.
 
 {text}"""
 
@@ -78,15 +78,23 @@ def copyright_text(crates: list[str]) -> str:
 def changelog(parts: Parts, name: str) -> str:
     """The list of versions, which has the one."""
     day = time.strftime("%a, %d %b %Y %H:%M:%S +0000", time.gmtime(parts.moment))
-    return f"{name} ({version(parts)}) unstable; urgency=medium\n\n  * Version {parts.version}.\n\n -- {maintainer()}  {day}\n"
+    return f"{name} ({version(parts)}) unstable; urgency=medium\n\n  * Version {parts.version}.\n\n -- {parts.maintainer}  {day}\n"
+
+
+def overrides(name: str) -> str:
+    """What lintian is told of a package."""
+    return f"""# It is not made for Debian's own archive, where a first upload closes the bug that asked for it.
+{name}: initial-upload-closes-no-bugs
+"""
 
 
 def documents(parts: Parts, package: Package) -> Tree:
-    """What each package has to be read."""
+    """What each package has to be read, and what it tells lintian."""
     folder = f"{PLACES.documents}/{package.name}"
     return {
-        f"{folder}/copyright": File(copyright_text(package.crates).encode()),
+        f"{folder}/copyright": File(copyright_text(parts, package.crates).encode()),
         f"{folder}/changelog.Debian.gz": File(compressed(changelog(parts, package.name).encode())),
+        PLACES / f"share/lintian/overrides/{package.name}": File(overrides(package.name).encode()),
     }
 
 
@@ -100,10 +108,11 @@ def with_short_pages(tree: Tree) -> Tree:
 def fields(parts: Parts, package: Package, size: int) -> str:
     """What the package says of itself."""
     about = "\n .\n".join(textwrap.fill(paragraph, 78, initial_indent=" ", subsequent_indent=" ") for paragraph in package.about)
-    return f"""Package: {package.name}
+    source = "" if package.name == SOURCE else f"\nSource: {SOURCE}"
+    return f"""Package: {package.name}{source}
 Version: {version(parts)}
 Architecture: {package.architecture}
-Maintainer: {maintainer()}
+Maintainer: {parts.maintainer}
 Installed-Size: {size}
 Depends: {", ".join(package.depends)}
 Section: {package.section}
@@ -114,15 +123,22 @@ Description: {package.summary}
 """
 
 
+def shared_name(parts: Parts) -> str:
+    """The name of the shared library's package, which alone has no page to begin with: nobody looks into it."""
+    return f"libsched{parts.soname.rpartition('.')[2]}"
+
+
 def packages(parts: Parts) -> list[Package]:
     """The four packages."""
     program = f"{PLACES.documents}/sched"
     development = f"{PLACES.documents}/libsched-dev"
-    shared = f"libsched{parts.soname.rpartition('.')[2]}"
-    programs = with_short_pages(made.program_tree(parts, PLACES)) | {f"{program}/README.md": copied(TOP / "README.md")}
+    shared = shared_name(parts)
+    programs = with_short_pages(made.program_tree(parts, PLACES)) | pages.program_pages(program)
     examples = {place: entry for place, entry in made.example_tree(program).items() if "/embed/" not in place}
     embedding = {place: entry for place, entry in made.example_tree(development).items() if "/embed/" in place}
-    guide: Tree = {f"{development}/EMBEDDING.md": copied(TOP / "docs" / "EMBEDDING.md")}
+    guide: Tree = {f"{development}/README.md": pages.page(TOP / "bindings" / "c" / "README.md"),
+                   f"{development}/EMBEDDING.md": copied(TOP / "docs" / "EMBEDDING.md")}
+    runner_page: Tree = {f"{PLACES.documents}/sched-runner/README.md": pages.page(made.RUNNER / "README.md")}
     links: Tree = {
         "shlibs": File(f"libsched {parts.soname.rpartition('.')[2]} {shared} (>= {parts.version})\n".encode()),
         "triggers": File(b"activate-noawait ldconfig\n"),
@@ -132,7 +148,7 @@ def packages(parts: Parts) -> list[Package]:
             "It runs plans of scheduled tasks over lines of events, as Java's ScheduledThreadPoolExecutor and DelayQueue do, and "
             "writes what happens. Every moment is handed in, so the same plan and events give the same bytes.",
             f"Measured of the program: {parts.program_machine}."], ["sched"], {}),
-        Package("sched-runner", "utils", with_short_pages(made.runner_tree(parts, PLACES, made.SYSTEM_PYTHON)),
+        Package("sched-runner", "utils", with_short_pages(made.runner_tree(parts, PLACES, made.SYSTEM_PYTHON)) | runner_page,
                 [f"sched (= {version(parts)})", PYTHON], "runs commands by a plan of sched", [
             "It runs commands as a plan of scheduled tasks says and as the clock goes, with timeouts, further attempts, and starts by "
             "the wall clock, and writes a trace, which sched checks."], [], {}, "all"),

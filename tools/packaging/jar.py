@@ -13,6 +13,7 @@ from typing import Any
 
 import library
 import machine
+import pages as package_pages
 import parts as made
 from library import C_LIBRARY, TOP
 from parts import Parts
@@ -76,15 +77,17 @@ def below(folder: Path, pattern: str = "*") -> Tree:
     return {str(path.relative_to(folder)): copied(path) for path in sorted(folder.rglob(pattern)) if path.is_file()}
 
 
-def manifest(version: str, is_program: bool) -> File:
+def manifest(version: str, is_program: bool, *more: str) -> File:
     """What stands first in a jar."""
-    lines = ["Manifest-Version: 1.0", f"Implementation-Title: {NAME}", f"Implementation-Version: {version}"]
+    lines = ["Manifest-Version: 1.0", f"Implementation-Title: {NAME}", f"Implementation-Version: {version}", *more]
     return File("\r\n".join([*lines, *[f"Automatic-Module-Name: {MODULE}"] * is_program, "", ""]).encode())
 
 
 def archived(parts: Parts, content: Tree, is_program: bool = False) -> bytes:
     """A jar, whose bytes hang on the files and the last commit alone."""
-    whole = {"META-INF/MANIFEST.MF": manifest(parts.version, is_program), "META-INF/NOTICES": made.notices(["timers_c"])}
+    vendor = f"Implementation-Vendor: {parts.maintainer.partition(' <')[0]}"
+    whole = {"META-INF/MANIFEST.MF": manifest(parts.version, is_program, vendor), "META-INF/NOTICES": made.notices(["timers_c"]),
+             "META-INF/README.md": package_pages.page(SOURCE / "README.md")}
     return zipped(files(whole | dict(sorted(content.items()))), parts.moment)
 
 

@@ -14,6 +14,7 @@ import library
 import licences
 import machine
 import manual
+import pages
 from library import TOP
 from machine import Machine
 from tools import ToolError, output
@@ -41,6 +42,11 @@ class Parts:
     def moment(self) -> int:
         """That of the last commit, which files carry, in seconds; or the one that SOURCE_DATE_EPOCH names."""
         return int(os.environ.get("SOURCE_DATE_EPOCH") or output(["git", "-C", TOP, "log", "-1", "--format=%ct"]))
+
+    @cached_property
+    def maintainer(self) -> str:
+        """Who made the last commit, with an address."""
+        return output(["git", "-C", TOP, "log", "-1", "--format=%an <%ae>"]).strip()
 
     @property
     def soname(self) -> str:
@@ -209,8 +215,7 @@ def machines(parts: Parts) -> str:
 
 def document_tree(parts: Parts, folder: str) -> Tree:
     """What is to be read."""
-    return {
-        f"{folder}/README.md": copied(TOP / "README.md"),
+    return pages.program_pages(folder) | {
         f"{folder}/EMBEDDING.md": copied(TOP / "docs" / "EMBEDDING.md"),
         f"{folder}/MACHINES": File(machines(parts).encode()),
     }

@@ -17,6 +17,7 @@ import checks
 import crate
 import debian
 import jar
+import pages
 import shells
 import tarball
 import versions
@@ -132,6 +133,8 @@ def try_tarball(trials: Trials, parts: Parts, packages: dict[str, bytes], folder
         output(["tar", "-xzf", folder / "archive", "-C", folder], environment=environment)
         output(["sha256sum", "--check", "--strict", root / tarball.SUMS], environment=environment, folder=root)
     examples = root / tarball.DOCUMENTS / "examples"
+    with trials.step("archive: its page, and what that leads to"):
+        checks.readme(examples.parent / "README.md")
     installed = Installed(parts.version, root / "bin" / "sched", root / "share", examples, environment)
     try_program(trials, "archive", installed, folder)
     if checks.has_emulator():
@@ -163,6 +166,9 @@ def try_debian(trials: Trials, parts: Parts, packages: dict[str, bytes], folder:
         # The root has no package of the C library, so what is missing is that alone.
         output(["dpkg", f"--root={root}", "--force-depends", "--install", *files], environment=environment)
         expect(output(["dpkg", f"--root={root}", "--verify", *names], environment=environment), "")
+    with trials.step("Debian: the pages of the packages, and what they lead to"):
+        for name in set(names) - {debian.shared_name(parts)}:
+            checks.readme(root / debian.PLACES.documents / name / "README.md")
     with_c_library(root)
     environment["PKG_CONFIG_PATH"] = str(root / debian.PLACES.libraries / "pkgconfig")
     documents = root / debian.PLACES.documents
@@ -177,8 +183,8 @@ def try_debian(trials: Trials, parts: Parts, packages: dict[str, bytes], folder:
         left = [str(path) for part in ("usr/bin", "usr/include", "usr/share") for path in (root / part).rglob("*")]
         expect("\n".join(left), "")
     if shutil.which("lintian"):
-        with trials.step("Debian: lintian finds no error"):
-            output(["lintian", "--fail-on", "error", *files], environment=environment | {"USER": "root"})
+        with trials.step("Debian: lintian finds no error and warns of nothing"):
+            output(["lintian", "--fail-on", "error,warning", *files], environment=environment | {"USER": "root"})
     else:
         print("left out, no lintian")
 
@@ -193,17 +199,17 @@ def installed_by_pip(name: str, data: bytes, folder: Path, environment: dict[str
     return python
 
 
-def try_metadata(python: Path, version: str, environment: dict[str, str]) -> None:
+def try_metadata(python: Path, version: str, maintainer: str, environment: dict[str, str]) -> None:
     """What an installed package says of itself: each field, and its page, which has no word of the toolchain."""
     fields = json.loads(output([python, "-I", "-c", METADATA_PROGRAM, wheel.PACKAGE], environment=environment))
     wanted = {"Name": [wheel.PACKAGE], "Version": [version], "Summary": [wheel.SUMMARY], "Keywords": [",".join(wheel.KEYWORDS)],
               "Requires-Python": [f">={wheel.OLDEST_PYTHON}"], "Classifier": list(wheel.CLASSIFIERS),
-              "Description-Content-Type": ["text/markdown"], "License-File": ["NOTICES"]}
+              "Description-Content-Type": ["text/markdown"], "License-File": ["NOTICES"], "Maintainer-email": [maintainer]}
     expect(str({name: fields.get(name) for name in wanted}), str(wanted))
     readme = (wheel.SOURCE / wheel.README).read_text()
     page, needed = fields["Description"][0].rsplit("\nMeasured, of the libraries: ", 1)
     expect(page, readme)
-    if re.search(r"\brt\b|rattle|/opt/", page, re.IGNORECASE) or not needed.startswith("Linux, glibc "):
+    if pages.TOOLCHAIN.search(page) or not needed.startswith("Linux, glibc "):
         raise ToolError(f"the page names the toolchain, or not what the libraries need:\n{page}\n{needed}")
 
 
@@ -216,7 +222,7 @@ def try_wheel(trials: Trials, parts: Parts, packages: dict[str, bytes], folder: 
         with trials.step(f"{kind}: installed"):
             python = installed_by_pip(name, packages[name], folder / kind.split()[0], environment)
         with trials.step(f"{kind}: what it says of itself"):
-            try_metadata(python, parts.version, environment)
+            try_metadata(python, parts.version, parts.maintainer, environment)
         for example, wanted in PYTHON_EXAMPLES.items():
             with trials.step(f"{kind}: {example}"):
                 shutil.copy(PYTHON_PROGRAMS / example, folder)
@@ -241,7 +247,7 @@ def try_jar(trials: Trials, parts: Parts, packages: dict[str, bytes], folder: Pa
     environment = outside(folder)
     for name in names:
         (folder / name).write_bytes(packages[name])
-    main, pages, sources = (folder / f"{jar.NAME}-{parts.version}{part}.jar" for part in ("", "-javadoc", "-sources"))
+    main, javadoc, sources = (folder / f"{jar.NAME}-{parts.version}{part}.jar" for part in ("", "-javadoc", "-sources"))
     (folder / "User.java").write_text(JAVA_USER)
     with trials.step("jar: a program over it"):
         output([programs / "javac", "-cp", main, "-d", folder, folder / "User.java"], environment=environment)
@@ -250,7 +256,8 @@ def try_jar(trials: Trials, parts: Parts, packages: dict[str, bytes], folder: Pa
         command = [programs / "java", "--module-path", main, "--add-modules", jar.MODULE, "-cp", folder, "User"]
         expect(output(command, environment=environment), JAVA_USER_WRITES)
     with trials.step("jar: sources and pages"):
-        for file, wanted in [(sources, "sched/timers/Timers.java"), (pages, "sched/timers/TimersThreadPoolExecutor.html"), (main, jar.LIBRARY)]:
+        for file, wanted in [(sources, "sched/timers/Timers.java"), (javadoc, "sched/timers/TimersThreadPoolExecutor.html"), (main, jar.LIBRARY),
+                             (main, "META-INF/README.md")]:
             if wanted not in output([programs / "jar", "--list", "--file", file], environment=environment).split():
                 raise ToolError(f"{file.name} has no {wanted}")
     with trials.step("jar: the same bytes once more"):
@@ -284,6 +291,9 @@ def try_crate(trials: Trials, parts: Parts, packages: dict[str, bytes], folder: 
         tested = output(["cargo", "test", "--offline"], environment=environment, folder=root)
         if not re.search(r"test result: ok\. [1-9]\d* passed", tested):
             raise ToolError(f"no test ran:\n{tested}")
+    with trials.step("crate: its pages, and what they lead to"):
+        for page in ("README.md", "tokio/README.md"):
+            checks.readme(root / page)
     for example, wanted in RUST_EXAMPLES.items():
         with trials.step(f"crate: its example {example}"):
             found = output(["cargo", "run", "--quiet", "--offline", "--example", example], environment=environment, folder=root)

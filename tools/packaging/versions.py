@@ -25,6 +25,8 @@ PLACES = [
     ("docs/EMBEDDING.md", r"(?<=dist/sched_timers-)\d+\.\d+\.\d+(?=\.tar)", "{0}.{1}.{2}"),
     ("docs/EMBEDDING.md", r"(?<=dist/sched-rust-)\d+\.\d+\.\d+(?=\.tar)", "{0}.{1}.{2}"),
     ("docs/EMBEDDING.md", r"(?<=--path sched-rust-)\d+\.\d+\.\d+", "{0}.{1}.{2}"),
+    ("docs/EMBEDDING.md", r"(?<=dist/sched-timers-)\d+\.\d+\.\d+(?=\.jar)", "{0}.{1}.{2}"),
+    ("bindings/java/README.md", r"(?<=sched-timers-)\d+\.\d+\.\d+(?=\.jar)", "{0}.{1}.{2}"),
     ("crates/program_tests/src/help.rt", r"(?<=--version\nsched )\d+\.\d+\.\d+(?= )", "{0}.{1}.{2}"),
     ("bindings/rust/Cargo.toml", r'(?<=name = "sched"\nversion = ")[^"]*', "{0}.{1}.{2}"),
     ("bindings/rust/Cargo.lock", r'(?<=name = "sched"\nversion = ")[^"]*', "{0}.{1}.{2}"),

@@ -83,7 +83,7 @@ def metadata(parts: Parts, machines: list[Machine]) -> str:
     """What the package says of itself: its page is README, with what its libraries need. It has no licence to name."""
     needed = max(machines, key=lambda it: (it.level, it.glibc))
     fields = ["Metadata-Version: 2.4", f"Name: {PACKAGE}", f"Version: {parts.version}", f"Summary: {SUMMARY}",
-              f"Keywords: {','.join(KEYWORDS)}", f"Requires-Python: >={OLDEST_PYTHON}",
+              f"Maintainer-email: {parts.maintainer}", f"Keywords: {','.join(KEYWORDS)}", f"Requires-Python: >={OLDEST_PYTHON}",
               *(f"Classifier: {classifier}" for classifier in CLASSIFIERS),
               "License-File: NOTICES", "Description-Content-Type: text/markdown"]
     readme = (SOURCE / README).read_text()
