@@ -27,6 +27,7 @@
 //!   millisecond after its deadline.
 //! - A timeout may be as long as it likes: one of more than 584 years counts as so long.
 //! - [`Delays::next`] awaits a value without an extension of `Stream`; [`Delays::try_reserve`] tells want of memory.
+//! - There is no `compact` and no `shrink_to_fit`: what room it has, it keeps.
 //! - It is `Send`, and not `Sync`.
 //!
 //! # Cost
