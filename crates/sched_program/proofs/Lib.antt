@@ -1,3 +1,4 @@
 pub mod Ends
 pub mod EndCounts
 pub mod Writings
+pub mod FineLints

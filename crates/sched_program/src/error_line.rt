@@ -32,7 +32,7 @@ pub fn tell<W: Sink>(
     answer: Result<Answer, ProgramError>,
     hint: Option<&Refusal>,
 ) -> u8
-    ensures told { IsTold answer (option_map (λ h. h.now) hint) (W.contents faults.old)
+    ensures told { IsTold answer (option_map (λ h. h.now) hint.entry) (W.contents faults.old)
         (W.contents faults.new) (W.failed faults.old) (W.fruitless faults.old)
         (W.failed faults.new) (W.fruitless faults.new) }
     ensures status { result ≡ exit_status_of answer }
@@ -72,7 +72,7 @@ fn write_lines<W: Sink>(faults: &mut W, lines: &[Refusal]) -> bool
 /// Writes the line of an error, and the hint behind it. False where the sink is at fault: a front of them was written.
 fn write_error<W: Sink>(faults: &mut W, error: ProgramError, hint: Option<&Refusal>) -> bool
     ensures text { WritesText result (W.contents faults.old) (W.contents faults.new)
-        (error_line error ++ hint_text (option_map (λ h. h.now) hint)) }
+        (error_line error ++ hint_text (option_map (λ h. h.now) hint.entry)) }
     ensures counts { CountsTries result (W.failed faults.old) (W.fruitless faults.old)
         (W.failed faults.new) (W.fruitless faults.new) }
 {
