@@ -13,7 +13,7 @@ use Rattle.command_work.specs.declared.error.ProgramError.{ProgramError}
 use Rattle.command_work.specs.declared.error.ProgramError.TheVariants.{LintOptions, Run}
 use Rattle.sched_engine.specs.declared.report.RunError.TheVariants as x
 use Rattle.sched_program.specs.declared.answer.Answer.{Answer}
-use Rattle.sched_program.specs.declared.answer.Answer.TheVariants.{Status, Warned, Refused}
+use Rattle.sched_program.specs.declared.answer.Answer.TheVariants.{Warned, Refused}
 
 -- the line that says that nothing is wrong
 abbrev pub fine_text : List ℕ

@@ -1,6 +1,6 @@
 -- Told: how the end of what a command line asks for is told, and what of it stands on standard error.
 -- All of it is this project's rule.
-use Rattle.std.specs.Prelude.{◌≡◌, ℕ, ◌++◌, Bool, List, [], Option, None, Some, Result, Ok, Err, flat_map}
+use Rattle.std.specs.Prelude.{ℕ, ◌++◌, Bool, List, [], Option, None, Some, Result, Ok, Err, flat_map}
 use Rattle.std.specs.Io.KnownBytes.{Keeps}
 use Rattle.byte_ends.specs.Ends.{CountsTries, NoneFailed, WritesText}
 use Rattle.command_work.specs.Errors.{status_of}

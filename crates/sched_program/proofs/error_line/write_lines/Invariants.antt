@@ -1,4 +1,4 @@
-use Rattle.std.proofs.Common.{length, take, ◌≤◌}
+use Rattle.std.proofs.Common.{take}
 use Rattle.std.specs.List.{flat_map}
 use Rattle.std.specs.Io.KnownBytes.{Appends}
 use Rattle.byte_ends.specs.Ends.{AllGood}
