@@ -127,7 +127,8 @@ fn tells_each_error(rt: HostRuntime) -> Result<(), Fail> {
 fn tells_faults_of_the_arguments(rt: HostRuntime) {
     let line = "sched: command line not UTF-8\n";
     is_told(&rt, ProgramError::Arguments, 2, line);
-    let line = "sched: lint takes PLAN, or it and --events, or it, --trace and --workers, or --calls alone\n";
+    let line =
+        "sched: lint takes PLAN, or it and --events, or it, --trace and --workers, or --calls alone\n";
     is_told(&rt, ProgramError::LintOptions, 2, line);
 }
 
@@ -192,7 +193,15 @@ fn tells_a_hint_behind_the_line_of_an_error_alone(rt: HostRuntime) -> Result<(),
     let done = Ok(Answer::Status(0));
     is_told_by(&rt, done, Some(&hint), Script::smooth(128), 0, "", 0);
     let fault = Err(ProgramError::PlanFile);
-    is_told_by(&rt, fault, Some(&hint), script_of(Standing::Closed), 1, "", 1);
+    is_told_by(
+        &rt,
+        fault,
+        Some(&hint),
+        script_of(Standing::Closed),
+        1,
+        "",
+        1,
+    );
     Ok(())
 }
 

@@ -55,7 +55,13 @@ pub enum Found {
 fn looked_at<'a>(asked: &LintArguments<'a>) -> Option<Looked<'a>>
     ensures { result ≡ asked_of asked.now }
 {
-    match (asked.path, asked.events, asked.trace, asked.workers, asked.calls) {
+    match (
+        asked.path,
+        asked.events,
+        asked.trace,
+        asked.workers,
+        asked.calls,
+    ) {
         (Some(plan), None, None, None, None) => Some(Looked::Plan(plan, Beside::Nothing)),
         (Some(plan), Some(events), None, None, None) => {
             Some(Looked::Plan(plan, Beside::Events(events)))

@@ -118,7 +118,12 @@ fn answer_arguments<R: Files + Input + Print + Eprint + AllocGlobal, T: Threads 
         rt.alloc(),
         arguments,
         |path| Noted::open(rt.alloc(), path, open_source(rt, path, &is_left), hints),
-        |path| Noted::open(rt.alloc(), path, fs::create(rt, path).map(Writing::new), hints),
+        |path| Noted::open(
+            rt.alloc(),
+            path,
+            fs::create(rt, path).map(Writing::new),
+            hints,
+        ),
         &mut reader,
         &mut writer,
     ) {

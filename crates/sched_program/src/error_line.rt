@@ -101,7 +101,9 @@ fn reason_of(error: ProgramError) -> Reason
     match error {
         ProgramError::Arguments => in_words("command line not UTF-8"),
         ProgramError::LintOptions => {
-            in_words("lint takes PLAN, or it and --events, or it, --trace and --workers, or --calls alone")
+            in_words(
+                "lint takes PLAN, or it and --events, or it, --trace and --workers, or --calls alone",
+            )
         }
         ProgramError::PlanFile => in_words("plan file not read"),
         ProgramError::PlanUnwritten => in_words("plan file not written"),

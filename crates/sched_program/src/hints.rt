@@ -45,7 +45,9 @@ impl Hints {
     }
 
     fn line_of_limit(&self, limit: u32) -> Result<Refusal, AllocError> {
-        let told = format!(in self.heap; "sched: at most {limit} events are taken; --limit N takes N")?;
+        let told = format!(in self.heap;
+            "sched: at most {limit} events are taken; --limit N takes N"
+        )?;
         Refusal::new(self.heap, told.as_str())
     }
 }

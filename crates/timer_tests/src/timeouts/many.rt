@@ -137,7 +137,10 @@ fn no_want_of_memory_is_told_where_it_is_ample(rt: HostRuntime) -> Result<(), Fa
     for &tasks in LOTS {
         submit_all(&rt, &mut timers, now, tasks)?;
         now = now.wrapping_add(tasks);
-        assert!(rt; run_all(&rt, &mut timers, now)? == tasks as usize, "{tasks}");
+        assert!(rt;
+            run_all(&rt, &mut timers, now)? == tasks as usize,
+            "{tasks}"
+        );
     }
     Ok(())
 }
