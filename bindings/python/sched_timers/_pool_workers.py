@@ -96,7 +96,7 @@ class Workers:
             try:
                 job.future._task = submit(time.monotonic_ns(), *spans, key)
             except BaseException:
-                del self.jobs[key]
+                self.jobs.pop(key, None)
                 raise
             self.sleepers.call(self.timers.next_due())
         return job.future
@@ -109,7 +109,7 @@ class Workers:
             if job is None or future._task is None:
                 return False
             self.timers.cancel(future._task)
-            del self.jobs[future._key]
+            self.jobs.pop(future._key, None)
             future._is_withdrawn = True
             self._wake_all_if_terminated()
             return True
@@ -129,7 +129,8 @@ class Workers:
         with self.lock:
             for call in calls:
                 call(time.monotonic_ns())
-                ended += [self.jobs.pop(gone.data) for gone in self.timers.ended()]
+                gone = [self.jobs.pop(task.data, None) for task in list(self.timers.ended())]
+                ended += [job for job in gone if job is not None]
             for job in ended:
                 job.future._is_withdrawn = self._broken is None
             self._wake_all_if_terminated()
@@ -196,9 +197,9 @@ class Workers:
         value, failure = _ran(found.call)
         match self._finish(worker, failure is not None):
             case Outcome.DONE:
-                found.future.set_result(value)
+                _tell(found.future.set_result, value)
             case Outcome.FAILED:
-                found.future.set_exception(failure)
+                _tell(found.future.set_exception, failure)
             case Outcome.ENDED:
                 self._tell_no_run(found.future)
             case Outcome.AGAIN | Outcome.DROPPED:
@@ -214,8 +215,13 @@ class Workers:
             run = self.timers.poll(time.monotonic_ns(), worker)
             if run is not None:
                 self.sleepers.call(self.timers.next_due())
-                job = self.jobs[run.data]
-                return job if job.is_periodic else self.jobs.pop(run.data)
+                job = self.jobs.get(run.data)
+                if job is None:
+                    # It was withdrawn as its run began: the run is ended, and nobody is told.
+                    return Job(ScheduledFuture(self, run.data), _nothing, False)
+                if not job.is_periodic:
+                    self.jobs.pop(run.data, None)
+                return job
             if self.timers.state().terminated:
                 self.sleepers.wake_all()
                 return None
@@ -259,9 +265,9 @@ class Workers:
         """Tells a future whose task the end of the pool has ended: it is withdrawn, unless the pool
         is broken. The caller does not hold the lock."""
         if future._is_withdrawn:
-            future._end_cancelled()
+            _tell(future._end_cancelled)
         else:
-            future.set_exception(BrokenThreadPool(self._broken))
+            _tell(future.set_exception, BrokenThreadPool(self._broken))
 
 
 def _ran(call: Callable[[], T]) -> tuple[T | None, BaseException | None]:
@@ -272,14 +278,30 @@ def _ran(call: Callable[[], T]) -> tuple[T | None, BaseException | None]:
         return None, failure
 
 
+def _nothing() -> None:
+    """What is done for a task without a job."""
+
+
+def _tell(tell: Callable[..., object], *words: Any) -> None:
+    """Tells a future. What a callback of it raises that is no Exception, as SystemExit, ends no
+    worker: it is logged."""
+    try:
+        tell(*words)
+    except BaseException:
+        LOGGER.exception("exception calling a callback of a future")
+
+
 @atexit.register
 def _end_all() -> None:
-    """Ends all pools, and waits for the runs that are under way or due."""
-    left = list(_ALL)
-    for workers in left:
-        workers.end()
-    for workers in left:
-        workers.join(None)
+    """Ends all pools, also those that are made meanwhile, and waits for the runs that are under way
+    or due."""
+    ended: list[Workers] = []
+    while left := [workers for workers in _ALL if workers not in ended]:
+        for workers in left:
+            workers.end()
+        for workers in left:
+            workers.join(None)
+        ended += left
 
 
 os.register_at_fork(after_in_child=_ALL.clear)
