@@ -128,11 +128,13 @@ final class Desk {
         return first == null ? timers.first() : Math.min(timers.first(), first.time() - base);
     }
 
-    /** A task came into the queue that was first due at another moment before. */
+    /**
+     * A task came into the queue that was first due at another moment before. Where nobody waits for that moment, as where who took a kept
+     * task is still at it, somebody is to look.
+     */
     private void queued(long due, long before) {
-        if (due >= before) return;
-        leader = null;
-        available.signal();
+        if (due < before) leader = null;
+        if (leader == null) available.signal();
     }
 
     private boolean isQueueEmpty() {
@@ -763,11 +765,21 @@ final class Desk {
 
     // ---- records
 
+    /** Whether a recording may begin now. */
+    boolean mayRecord() {
+        lock();
+        try {
+            return timers.numbers() == 0 && !shut && !recorded;
+        } finally {
+            lock.unlock();
+        }
+    }
+
     /** From now on, calls and what they are answered go to a recorder. The answer is false where it is too late for that. */
     boolean recordTo(Recorder recorder) {
         lock();
         try {
-            if (timers.numbers() != 0 || shut || recorded) return false;
+            if (!mayRecord()) return false;
             Timers before = timers;
             timers = new RecordedTimers(recorder);
             recorded = true;

@@ -469,13 +469,18 @@ public class TimersThreadPoolExecutor extends ScheduledThreadPoolExecutor {
      * @throws IllegalStateException as there
      */
     public void recordTo(Path trace, Path plan) throws IOException {
+        if (!desk.mayRecord()) throw tooLateToRecord();
         recordTo(Recorder.into(trace, plan));
+    }
+
+    private static IllegalStateException tooLateToRecord() {
+        return new IllegalStateException("a recording begins before the first task, once, and while the pool is not shut");
     }
 
     private void recordTo(Recorder chosen) {
         if (!desk.recordTo(chosen)) {
             chosen.close();
-            throw new IllegalStateException("a recording begins before the first task, once, and while the pool is not shut");
+            throw tooLateToRecord();
         }
         recorder = chosen;
     }
