@@ -21,7 +21,7 @@ use Rattle.task_table.specs.Seats.{task_in, slot_of, waits, is_running_in}
 use Rattle.task_table.specs.Tables.{TableView, WorkIs, Shows, CallSteps}
 use Rattle.task_table.specs.Firsts.{stands_in_queue, queue_in}
 use Rattle.task_table.specs.Changes.{at_moment}
-use Rattle.task_table.specs.own.Formed.{IsFormed}
+use Rattle.task_table.specs.Formed.{IsFormed}
 use Rattle.task_table.proofs.Written.{slot_within}
 use Rattle.task_table.proofs.Standing.{Known}
 use Rattle.task_table.proofs.Knowing.{known_number}

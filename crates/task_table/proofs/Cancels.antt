@@ -29,7 +29,7 @@ use Rattle.task_table.specs.Seats.{task_in, slot_of, is_waiting_in, is_running_i
 use Rattle.task_table.specs.Tables.{TableView, workers_of, Shows, Stands, Takes, EventSteps, CallSteps}
 use Rattle.task_table.specs.Ends.{effect_of}
 use Rattle.task_table.specs.Changes.{cancelled, cancel_by, cancel_in, at_moment}
-use Rattle.task_table.specs.own.Formed.{IsFormed}
+use Rattle.task_table.specs.Formed.{IsFormed}
 use Rattle.task_table.proofs.Standing.{Known, takes}
 use Rattle.task_table.proofs.Knowing.{known}
 use Rattle.task_table.proofs.Shown.{takes_call, same_shown, later_shown, put_shown}

@@ -15,7 +15,7 @@ use Rattle.task_table.specs.Seats.{task_in, slot_of}
 use Rattle.task_table.specs.Tables.{TableView, workers_of, Shows, keeping, StandsBefore}
 use Rattle.task_table.specs.Firsts.{FirstIs, is_met}
 use Rattle.task_table.specs.Changes.{put, unkept}
-use Rattle.task_table.specs.own.Formed.{IsFormed}
+use Rattle.task_table.specs.Formed.{IsFormed}
 use Rattle.task_table.proofs.Written.{by_eqb, Writes, set_writes, slot_within, ChangesOne, holds_put, knows_put}
 use Rattle.task_table.proofs.Standing.{Known, view_there}
 use Rattle.task_table.proofs.Knowing.{known}

@@ -25,7 +25,7 @@ use Rattle.task_table.specs.declared.seat.Seat.{Seat}
 use Rattle.task_table.specs.Seats.{task_in, slot_of}
 use Rattle.task_table.specs.Tables.{TableView, workers_of, WorkIs, Shows, Stands, Takes, EventSteps}
 use Rattle.task_table.specs.Changes.{put, ended, finished}
-use Rattle.task_table.specs.own.Formed.{IsFormed}
+use Rattle.task_table.specs.Formed.{IsFormed}
 use Rattle.task_table.proofs.Written.{ChangesOne}
 use Rattle.task_table.proofs.Standing.{Known, takes}
 use Rattle.task_table.proofs.Knowing.{known}

@@ -22,7 +22,7 @@ use Rattle.task_table.specs.declared.seat.Seat.{Seat}
 use Rattle.task_table.specs.Seats.{task_in, slot_of, is_waiting_in, is_running_in, waits, is_alive}
 use Rattle.task_table.specs.Tables.{TableView, workers_of, WorkIs, Shows, keeping}
 use Rattle.task_table.specs.Firsts.{IsFirstDue, FirstIs, is_met}
-use Rattle.task_table.specs.own.Formed.{IsFormed}
+use Rattle.task_table.specs.Formed.{IsFormed}
 use Rattle.task_table.proofs.Standing.{Known}
 use Rattle.task_table.proofs.Clocks.{start_reply}
 

@@ -15,7 +15,7 @@ use Rattle.task_table.specs.declared.seat.Seat.{Seat}
 use Rattle.task_table.specs.Seats.{task_in, slot_of, is_alive, is_running_in, waits, IsNew}
 use Rattle.task_table.specs.Tables.{TableView}
 use Rattle.task_table.specs.Changes.{submitted, at_moment, admitted, emptied, grown, swept, after_sweep}
-use Rattle.task_table.specs.own.Formed.{IsSeated, IsFormed}
+use Rattle.task_table.specs.Formed.{IsSeated, IsFormed}
 use Rattle.task_table.proofs.Written.{by_eqb, Writes, set_writes, slot_within, read_slot}
 
 -- what is seated at a moment is at a later one
@@ -52,7 +52,7 @@ seated_new number at delay timing near short timed = record {
   over = λ q. absurd cc;
 }
 
-apart_new : (old new : List (Option Seat)) (slot : ℕ) (y : Seat) → IsNew old y.number → Writes old new slot y → ((i j : ℕ) (u v : Seat) → slot_of old i ≡ Some u → slot_of old j ≡ Some v → u.number ≡ v.number → i ≡ j) →
+pub apart_new : (old new : List (Option Seat)) (slot : ℕ) (y : Seat) → IsNew old y.number → Writes old new slot y → ((i j : ℕ) (u v : Seat) → slot_of old i ≡ Some u → slot_of old j ≡ Some v → u.number ≡ v.number → i ≡ j) →
     (i j : ℕ) (u v : Seat) → slot_of new i ≡ Some u → slot_of new j ≡ Some v → u.number ≡ v.number → i ≡ j
 apart_new old new slot y fresh writes apart i j u v p q e = elim (read_slot old new slot i y u writes p) [
   | inl own ↦ elim (read_slot old new slot j y v writes q) [

@@ -24,7 +24,7 @@ use Rattle.task_table.specs.Seats.{slot_of, is_waiting_in, is_running_in}
 use Rattle.task_table.specs.Tables.{TableView, workers_of}
 use Rattle.task_table.specs.Firsts.{IsFirstDue}
 use Rattle.task_table.specs.Changes.{put, begun, started, ended, finished, cancelled, cancel_by, cancel_in, unkept}
-use Rattle.task_table.specs.own.Formed.{IsSeated, IsFormed}
+use Rattle.task_table.specs.Formed.{IsSeated, IsFormed}
 use Rattle.task_table.proofs.Written.{by_eqb, set_writes, slot_within, read_slot, apart_put}
 
 -- a task in this phase waits

@@ -8,7 +8,7 @@ use Rattle.task_table.specs.declared.seat.Seat.{Seat}
 use Rattle.task_table.specs.Seats.{task_in, slot_of, waits}
 use Rattle.task_table.specs.Tables.{TableView}
 use Rattle.task_table.specs.Firsts.{IsFirstDue, NoneDue, is_met, MeetsNone, NoneKept}
-use Rattle.task_table.specs.own.Formed.{IsFormed}
+use Rattle.task_table.specs.Formed.{IsFormed}
 use Rattle.task_table.specs.Orders.{IsLeastKey}
 use Rattle.task_table.specs.own.Queues.{Queues, key_where, queued_key, kept_key}
 

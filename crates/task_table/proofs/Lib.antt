@@ -31,3 +31,6 @@ pub mod Finding
 pub mod Sorting
 pub mod Spent
 pub mod RunEnds
+pub mod Placing
+pub mod Imaged
+pub mod Existing

@@ -13,7 +13,7 @@ use Rattle.task_table.specs.Tables.{TableView}
 use Rattle.task_table.specs.Firsts.{NoneDue, FirstIs, MeetsNone, NoneMet, NoneKept, holds_kept, kept_in, IsEarliest, NoneWaits, IsRipe}
 use Rattle.task_table.specs.Changes.{put, unkept}
 use Rattle.task_table.specs.Runs.{Drops, IsFull}
-use Rattle.task_table.specs.own.Formed.{IsFormed, IsSeated}
+use Rattle.task_table.specs.Formed.{IsFormed, IsSeated}
 use Rattle.task_table.specs.Orders.{IsLeastKey}
 use Rattle.task_table.specs.own.Queues.{IsTable}
 use Rattle.task_table.specs.own.Heads.{HeadsQueue, HeadsKept, IsMetBy}

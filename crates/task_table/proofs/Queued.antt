@@ -18,7 +18,7 @@ use Rattle.task_table.specs.Seats.{task_in, slot_of, is_waiting_in, is_running_i
 use Rattle.task_table.specs.Tables.{TableView}
 use Rattle.task_table.specs.Ends.{effect_of}
 use Rattle.task_table.specs.Changes.{put, submitted, at_moment, admitted, begun, started, ended, finished, cancelled, cancel_by, cancel_in, emptied, grown, unkept}
-use Rattle.task_table.specs.own.Formed.{IsFormed}
+use Rattle.task_table.specs.Formed.{IsFormed}
 use Rattle.task_table.specs.Orders.{with_key}
 use Rattle.task_table.specs.own.Queues.{Queues, key_where, queued_key, kept_key, key_again, key_cancelled}
 use Rattle.task_table.proofs.Written.{slot_within}
@@ -59,7 +59,7 @@ same_key entries slot key is i = by (slot == i) refl
     by false other = refl
 
 -- what stands in the queues once a slot holds this
-queues_write : (m n : TableView) (slot : ℕ) (x : Option Seat) (entries kept : ℕ → Option (ℕ × ℕ)) → slot < length m.slots → n.slots ≡ set m.slots slot x → Queues m entries kept →
+pub queues_write : (m n : TableView) (slot : ℕ) (x : Option Seat) (entries kept : ℕ → Option (ℕ × ℕ)) → slot < length m.slots → n.slots ≡ set m.slots slot x → Queues m entries kept →
     Queues n (with_key entries slot (queued_key x)) (with_key kept slot (kept_key x))
 queues_write m n slot x entries kept low is q = record {
   waiting = λ i. read_key queued_key m.slots slot i x entries low q.waiting ∙ ap (λ slots. queued_key (slot_of slots i)) (sym is);

@@ -13,7 +13,7 @@ use Rattle.task_table.specs.declared.seat.Seat.{Seat}
 use Rattle.task_table.specs.Seats.{task_in, slot_of, is_alive, is_waiting_in, is_running_in}
 use Rattle.task_table.specs.Tables.{TableView, workers_of, WorkIs, Shows, keeping, Stands, StandsBefore}
 use Rattle.task_table.specs.Changes.{emptied, grown}
-use Rattle.task_table.specs.own.Formed.{IsFormed}
+use Rattle.task_table.specs.Formed.{IsFormed}
 use Rattle.task_table.proofs.Written.{apart_eqb, slot_within}
 
 -- ---- a slot is emptied

@@ -12,7 +12,8 @@ use Rattle.task_table.specs.Seats.{slot_of, is_running_in}
 use Rattle.task_table.specs.Tables.{TableView, EventSteps}
 use Rattle.task_table.specs.Changes.{ended, finished}
 use Rattle.task_table.specs.Runs.{IsEndOf, Ends, IsLeft}
-use Rattle.task_table.specs.own.Formed.{IsFormed, IsAtWork}
+use Rattle.task_table.specs.Formed.{IsFormed}
+use Rattle.task_table.specs.own.Working.{IsAtWork}
 use Rattle.task_table.proofs.Finishes.{finish_steps, kept_not, finish_leaves}
 use Rattle.task_table.proofs.Worked.{at_work}
 

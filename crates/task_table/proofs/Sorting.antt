@@ -19,7 +19,7 @@ use Rattle.task_table.specs.Tables.{TableView}
 use Rattle.task_table.specs.Ends.{IsAscending, ends_task}
 use Rattle.task_table.specs.Endings.{numbers_of, IsOverAt, SweepEnds}
 use Rattle.task_table.specs.Changes.{swept, after_sweep}
-use Rattle.task_table.specs.own.Formed.{IsFormed}
+use Rattle.task_table.specs.Formed.{IsFormed}
 use Rattle.task_table.specs.own.Found.{found}
 use Rattle.task_table.proofs.Written.{AreApart}
 use Rattle.task_table.proofs.Formed.{at_swept}

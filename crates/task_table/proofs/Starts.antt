@@ -22,7 +22,7 @@ use Rattle.task_table.specs.Seats.{task_in, slot_of, is_running_in, waits}
 use Rattle.task_table.specs.Tables.{TableView, workers_of, WorkIs, Shows, keeping, Stands, StandsBefore, EventStepsBefore, Takes}
 use Rattle.task_table.specs.Firsts.{IsFirstDue, NoneDue, FirstIs, MeetsNone}
 use Rattle.task_table.specs.Changes.{begun, started}
-use Rattle.task_table.specs.own.Formed.{IsFormed}
+use Rattle.task_table.specs.Formed.{IsFormed}
 use Rattle.task_table.proofs.Written.{by_eqb, Writes, set_writes, slot_within, ChangesOne, holds_put, knows_put}
 use Rattle.task_table.proofs.Standing.{Known, view_there, takes}
 use Rattle.task_table.proofs.Knowing.{known}

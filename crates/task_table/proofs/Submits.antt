@@ -19,7 +19,7 @@ use Rattle.executor_model.proofs.Tables.{submission}
 use Rattle.task_table.specs.Seats.{task_in, slot_of, IsNew}
 use Rattle.task_table.specs.Tables.{TableView, workers_of, Stands, Takes, IsNextCall, CallSteps}
 use Rattle.task_table.specs.Changes.{put, submitted, at_moment, admitted}
-use Rattle.task_table.specs.own.Formed.{IsFormed}
+use Rattle.task_table.specs.Formed.{IsFormed}
 use Rattle.task_table.proofs.Written.{ChangesOne}
 use Rattle.task_table.proofs.Standing.{Known}
 use Rattle.task_table.proofs.Knowing.{known}

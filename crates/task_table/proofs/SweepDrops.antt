@@ -20,7 +20,7 @@ use Rattle.task_table.specs.Seats.{task_in, slot_of}
 use Rattle.task_table.specs.Tables.{TableView, workers_of, WorkIs, Shows, keeping, StandsBefore, IsNextCall}
 use Rattle.task_table.specs.Ends.{sweeps_at}
 use Rattle.task_table.specs.Changes.{put, unkept}
-use Rattle.task_table.specs.own.Formed.{IsFormed}
+use Rattle.task_table.specs.Formed.{IsFormed}
 use Rattle.task_table.proofs.Written.{by_eqb, set_writes, slot_within, ChangesOne, holds_put, knows_put, Writes}
 use Rattle.task_table.proofs.Standing.{view_there}
 

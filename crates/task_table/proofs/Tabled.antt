@@ -15,7 +15,7 @@ use Rattle.delay_queue.specs.slots.Queues.{with_slots}
 use Rattle.task_table.specs.declared.seat.Seat.{Seat}
 use Rattle.task_table.specs.Seats.{task_in, slot_of, is_alive, IsNew}
 use Rattle.task_table.specs.Tables.{TableView}
-use Rattle.task_table.specs.own.Formed.{IsFormed}
+use Rattle.task_table.specs.Formed.{IsFormed}
 use Rattle.task_table.specs.Changes.{submitted, admitted, emptied, grown}
 use Rattle.executor_model.specs.declared.task.Stage.TheVariants as ph
 use Rattle.task_table.specs.Orders.{keys, with_key}

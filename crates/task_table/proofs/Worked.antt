@@ -19,7 +19,8 @@ use Rattle.task_table.specs.Tables.{TableView, workers_of}
 use Rattle.task_table.specs.Firsts.{IsFirstDue}
 use Rattle.task_table.specs.Ends.{effect_of}
 use Rattle.task_table.specs.Changes.{put, at_moment, begun, started, finished, ended, cancelled, cancelled_keeping, cancel_by, cancel_in, unkept}
-use Rattle.task_table.specs.own.Formed.{IsFormed, IsAtWork}
+use Rattle.task_table.specs.Formed.{IsFormed}
+use Rattle.task_table.specs.own.Working.{IsAtWork}
 use Rattle.task_table.specs.Orders.{with_key}
 use Rattle.task_table.specs.own.Queues.{queued_key, kept_key, key_where, key_again, is_again, key_cancelled, Queues, IsTable}
 use Rattle.task_table.proofs.Written.{slot_within}

@@ -6,9 +6,11 @@ pub use Rattle.executor_model.specs.State
 pub mod Orders
 pub mod Seats
 pub mod Tables
+pub mod Formed
 pub mod Firsts
 pub mod Ends
 pub mod Changes
+pub mod Images
 pub mod Runs
 pub mod own
 pub mod Endings

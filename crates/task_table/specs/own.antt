@@ -1,5 +1,6 @@
 -- What no public clause of this crate, or of those above it, leads to: means of its own contracts and proofs.
-pub mod Formed
+pub mod Working
 pub mod Queues
 pub mod Heads
 pub mod Found
+pub mod Restoring

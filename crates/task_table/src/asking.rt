@@ -16,7 +16,7 @@ use std::alloc::Allocator;
 impl<S: Slots, Q: TaskQueue, A: Allocator> Table<S, Q, A> {
     ghost use Rattle.task_table.specs.Tables.{CallSteps};
     ghost use Rattle.task_table.specs.Firsts.{queue_in, IsRipe};
-    ghost use Rattle.task_table.specs.own.Formed.{IsFormed};
+    ghost use Rattle.task_table.specs.Formed.{IsFormed};
 
     /// A call asks, at the moment `at`, how far the executor is.
     pub fn ask(&mut self, at: u64) -> Asked

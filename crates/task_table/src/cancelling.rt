@@ -28,7 +28,7 @@ impl<S: Slots, Q: TaskQueue, A: Allocator> Table<S, Q, A> {
     ghost use Rattle.task_table.specs.Tables.{workers_of, Stands, Takes, IsNextCall, CallSteps, EventSteps};
     ghost use Rattle.task_table.specs.Seats.{IsNew};
     ghost use Rattle.task_table.specs.Ends.{effect_of, effect_gone};
-    ghost use Rattle.task_table.specs.own.Formed.{IsFormed};
+    ghost use Rattle.task_table.specs.Formed.{IsFormed};
 
     /// A call cancels the task in a slot, which is not empty, at the moment `at`. The answer says whether that had an effect:
     /// never [`CancelEffect::Absent`].

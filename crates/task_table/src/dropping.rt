@@ -18,7 +18,7 @@ impl<S: Slots, Q: TaskQueue, A: Allocator> Table<S, Q, A> {
     ghost use Rattle.task_table.specs.Firsts.{IsMetAt, NoneMet, NoneKept};
     ghost use Rattle.task_table.specs.Ends.{sweeps_at};
     ghost use Rattle.task_table.specs.Runs.{IsFree, Drops};
-    ghost use Rattle.task_table.specs.own.Formed.{IsFormed};
+    ghost use Rattle.task_table.specs.Formed.{IsFormed};
     ghost use Rattle.task_table.specs.own.Heads.{HeadsKept, IsMetBy};
 
     /// Drops one of the kept tasks that the next start meets, if it is not refused, and answers its slot: of its task nothing

@@ -19,7 +19,8 @@ impl<S: Slots, Q: TaskQueue, A: Allocator> Table<S, Q, A> {
     ghost use Rattle.task_table.specs.Tables.{workers_of};
     ghost use Rattle.task_table.specs.Seats.{slot_of};
     ghost use Rattle.task_table.specs.Runs.{IsFinishError, IsEndOf, Ends, FailsFinish};
-    ghost use Rattle.task_table.specs.own.Formed.{IsFormed, IsAtWork};
+    ghost use Rattle.task_table.specs.Formed.{IsFormed};
+    ghost use Rattle.task_table.specs.own.Working.{IsAtWork};
 
     /// A worker has run its task, and the run ended so: with a value, or by a fault.
     ///

@@ -23,7 +23,7 @@
 //!
 //! The steps are those of a [`Table`], whatever keeps its tasks and its queues: [`Slots`] and [`TaskQueue`] are what it asks of
 //! these. A `TaskTable` is one with [`Seats`], which hold whole tasks and can be emptied, and with two [`NumberedQueue`]s. Its
-//! `new`, `reserve`, `release` and `seats` are its own. [`Table::with`] makes one of other slots and queues, as the crate
+//! `new`, `reserve`, `release`, `seats`, `frame`, `image` and `restore` are its own. [`Table::with`] makes one of other slots and queues, as the crate
 //! `plan_table` does for the tasks of a plan, and [`stored`](Table::stored) gives them.
 //!
 //! # Behaviour
@@ -48,6 +48,14 @@
 //! [`start_free`](Table::start_free). One that has to know first what a finish comes to asks [`end_of`](Table::end_of), and makes
 //! it so by [`end_as`](Table::end_as).
 //!
+//! # Written and restored
+//!
+//! [`TaskTable::frame`], and [`TaskTable::image`] of each task, say what is to be written of a table, and [`TaskTable::restore`]
+//! makes the table of which this is written (`specs/Images.antt`). There is no other one ([`what_is_written_is_of_one_table`]),
+//! so what a clause says of the one is said of the other. What is written of no table that is well formed is refused
+//! (`specs/Formed.antt`); each table is ([`each_table_is_formed`]), and shows a state ([`each_table_shows_a_state`]), but not to each
+//! one that is do calls and events lead.
+//!
 //! # Moments
 //!
 //! A moment is a number of nanoseconds, at most 2^62, and a due moment at most 2^63. The table reads no clock: it is told each
@@ -60,16 +68,18 @@
 //! # Errors
 //!
 //! [`TaskTable::new`] and [`reserve`](TaskTable::reserve) fail with `AllocError` where the allocator has no room, and a table
-//! whose `reserve` failed is as it was. A clock that goes back or too far, a start by a worker that works, a finish by one that
-//! does not, and either by a worker that there is not, are answered by an [`EventError`](executor_model::EventError). A start has
-//! [`StartError::Full`] where the task has had 2^64 - 1 runs. After an error the table is as it was. No other call can fail.
+//! whose `reserve` failed is as it was; [`restore`](TaskTable::restore) fails with a [`RestoreError`]. A clock that goes back or too
+//! far, a start by a worker that works, a finish by one that does not, and either by a worker that there is not, are answered by an
+//! [`EventError`](executor_model::EventError). A start has [`StartError::Full`] where the task has had 2^64 - 1 runs. After an
+//! error the table is as it was. No other call can fail.
 //!
 //! # Memory and cost
 //!
-//! A `TaskTable` takes memory for each slot (what it holds, and an entry in each of two queues) and for each worker, and only in `new`
-//! and `reserve`. A call that admits, starts, finishes, cancels, drops or ends a task takes the time of a change of a heap. A
-//! sweep goes over all slots, and sorts the tasks that it ends; `ask` goes over the workers; `reserve` may move all slots. All
-//! other calls take constant time.
+//! A `TaskTable` takes memory for each slot (what it holds, and an entry in each of two queues) and for each worker, and only in `new`,
+//! `reserve` and `restore`. A call that admits, starts, finishes, cancels, drops or ends a task takes the time of a change of a heap. A
+//! sweep goes over all slots, and sorts the tasks that it ends; `ask` goes over the workers, and so does `image` of a task that is
+//! run; `reserve` may move all slots; `restore` makes them, and takes a change of a heap for each task. All other calls take constant
+//! time.
 #![tactic(auto)]
 
 mod answers;
@@ -77,8 +87,11 @@ mod asking;
 mod cancelling;
 mod dropping;
 mod finishing;
+mod image;
+mod laws;
 mod numbered;
 mod queues;
+mod restoring;
 mod seat;
 mod seats;
 mod shutting;
@@ -86,8 +99,11 @@ mod slots;
 mod starting;
 mod sweeping;
 mod table;
+mod writing;
 
 pub use answers::{Asked, Begun, Ended, RunEnd, StartError};
+pub use image::{Frame, Image, RestoreError};
+pub use laws::{each_table_is_formed, each_table_shows_a_state, what_is_written_is_of_one_table};
 pub use numbered::NumberedQueue;
 pub use queues::{Entry, TaskQueue};
 pub use seat::{Seat, TaskRef};

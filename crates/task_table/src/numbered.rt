@@ -10,7 +10,7 @@ use std::alloc::{AllocError, Allocator};
 /// The entries of a [`TaskTable`](crate::TaskTable), by slot. The rank of each is the number of its task.
 #[derive(Drop)]
 pub struct NumberedQueue<A: Allocator> {
-    entries: SlotQueue<u64, A>,
+    pub(crate) entries: SlotQueue<u64, A>,
 }
 
 impl<A: Allocator> NumberedQueue<A> {

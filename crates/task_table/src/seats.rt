@@ -1,5 +1,5 @@
 //! Slots that hold whole tasks, and can be emptied.
-ghost use Rattle.std.specs.Prelude.{◌≡◌, ◌<◌, ◌≤◌, ◌-◌, ◌+◌, ◌++◌, ◌^◌, nat_lt, true, [], length, replicate, None, slice_set, OnOk, OnErr};
+ghost use Rattle.std.specs.Prelude.{◌≡◌, ◌<◌, ◌≤◌, ◌-◌, ◌+◌, ◌++◌, ◌^◌, nat_lt, true, [], length, replicate, Some, None, slice_set, OnOk, OnErr};
 ghost use Rattle.task_table.specs.Changes as changes;
 
 use crate::seat::Seat;
@@ -49,6 +49,14 @@ impl<A: Allocator> Seats<A> {
         ensures { self.new ≡ slice_set self.old slot None }
     {
         self.slots[slot as usize] = None;
+    }
+
+    /// A slot holds this from then on.
+    pub(crate) fn put(&mut self, slot: u32, seat: Seat)
+        requires { slot < length self.old }
+        ensures { self.new ≡ slice_set self.old slot (Some seat) }
+    {
+        self.slots[slot as usize] = Some(seat);
     }
 
     /// What each slot holds.

@@ -20,7 +20,7 @@ impl<S: Slots, Q: TaskQueue, A: Allocator> Table<S, Q, A> {
     ghost use Rattle.task_table.specs.Seats.{slot_of};
     ghost use Rattle.task_table.specs.Firsts.{IsFirstDue, IsFirst, NoneDue, NoneMet, IsEarliest, NoneWaits};
     ghost use Rattle.task_table.specs.Runs.{IsFree, IsFull, MayRun, IsStartError, Starts, FailsStart, FailsClock};
-    ghost use Rattle.task_table.specs.own.Formed.{IsFormed};
+    ghost use Rattle.task_table.specs.Formed.{IsFormed};
     ghost use Rattle.task_table.specs.own.Heads.{HeadsQueue};
 
     /// The clock shows a moment, in nanoseconds: it is moved there.

@@ -7,7 +7,7 @@ use Rattle.executor_model.specs.declared.types.Outcome.TheVariants as o
 use Rattle.task_table.specs.declared.seat.Seat.{Seat}
 use Rattle.task_table.specs.Seats.{task_in, slot_of, waits, is_waiting_in}
 use Rattle.task_table.specs.Tables.{TableView}
-use Rattle.task_table.specs.own.Formed.{IsFormed}
+use Rattle.task_table.specs.Formed.{IsFormed}
 
 -- the due moment and the number of a task, where it stands in the queue
 abbrev pub key_where : Bool → Seat → Option (ℕ × ℕ)

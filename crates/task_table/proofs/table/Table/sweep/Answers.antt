@@ -5,7 +5,7 @@ use Rattle.task_table.specs.Seats.{slot_of}
 use Rattle.task_table.specs.Tables.{TableView}
 use Rattle.task_table.specs.Ends.{ends_task}
 use Rattle.task_table.specs.own.Found.{ref_of, found}
-use Rattle.task_table.specs.own.Formed.{IsFormed}
+use Rattle.task_table.specs.Formed.{IsFormed}
 use Rattle.task_table.proofs.Finding.{sweep_more, room_more, partly_all, none_ref, swept_at, some_ref}
 use Rattle.task_table.proofs.Sorting.{sweep_ends}
 use Rattle.task_table.proofs.table.Table.sweep.Goals as goal

@@ -1,5 +1,5 @@
--- What stays true of each table of tasks, whatever the calls and the history are. No contract of a public call cites it but
--- through the invariant of the table. All of it is this project's rule.
+-- What stays true of each table of tasks, whatever the calls and the history are.
+-- All of it is this project's rule.
 use Rattle.std.specs.Prelude.{◌≡◌, ◌≢◌, ℕ, ◌+◌, ◌^◌, ◌<◌, ◌≤◌, true, length, Some, None, slice_index_or}
 use Rattle.sched_time.specs.Times.{longest}
 use Rattle.queue_code.specs.Calls.{IsTimed}
@@ -31,9 +31,3 @@ pub record IsFormed (m : TableView) : Type 0 where
   pub apart : (i j : ℕ) (x y : Seat) → slot_of m.slots i ≡ Some x → slot_of m.slots j ≡ Some y → x.number ≡ y.number → i ≡ j
   pub staffed : (w i : ℕ) → slice_index_or m.work w None ≡ Some i → (x : Seat) × (slot_of m.slots i ≡ Some x) × (x.phase ≡ ph.Running)
   pub alone : (v w i : ℕ) → slice_index_or m.work v None ≡ Some i → slice_index_or m.work w None ≡ Some i → v ≡ w
-
--- of a task whose run is under way at this moment
-pub record IsAtWork (moment : ℕ) (x : Seat) : Type 0 where
-  pub runs : x.phase ≡ ph.Running
-  pub due : x.due ≤ longest
-  pub room : x.run + 1 < 2 ^ 64
