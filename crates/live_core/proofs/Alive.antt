@@ -26,7 +26,8 @@ use Rattle.task_table.specs.Changes.{put, begun, ended, cancelled, cancel_by, em
 use Rattle.live_core.specs.Said.{tasks_in, alive_in}
 use Rattle.live_core.specs.Shutting.{IsGone}
 use Rattle.live_core.specs.own.Places.{IsEmptyAt}
-use Rattle.live_core.specs.own.Slots.{held_numbers, IsIndex}
+use Rattle.live_core.specs.Empties.{held_numbers}
+use Rattle.live_core.specs.own.Slots.{IsIndex}
 use Rattle.live_core.specs.Lives.{AreAlive}
 use Rattle.live_core.specs.own.Formed.{AreAliveBut}
 use Rattle.live_core.specs.own.Shed.{released}

@@ -7,7 +7,7 @@ use Rattle.std.proofs.lemmas.List.Folds.{list_any-append}
 use Rattle.std.proofs.lemmas.Option.{none-some}
 use Rattle.queue_code.specs.Calls.{how_many}
 use Rattle.executor_model.proofs.Tables.{at_set}
-use Rattle.live_core.specs.own.Slots.{number_in, is_among, AreOnce, AreEmpty}
+use Rattle.live_core.specs.Empties.{number_in, is_among, AreOnce, AreEmpty}
 
 -- ---- lists of slots
 

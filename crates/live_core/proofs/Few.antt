@@ -8,7 +8,8 @@ use Rattle.std.proofs.lemmas.Bool.{false≢true, eqb-true, false_from_ne_true}
 use Rattle.std.proofs.lemmas.Option.{same_Some}
 use Rattle.queue_code.specs.Calls.{how_many}
 use Rattle.task_table.specs.declared.seat.TaskRef.{TaskRef}
-use Rattle.live_core.specs.own.Slots.{number_in, is_held, Ascends}
+use Rattle.live_core.specs.Empties.{number_in}
+use Rattle.live_core.specs.own.Slots.{is_held, Ascends}
 use Rattle.live_core.proofs.Emptied.{count_emptied, number_stays, number_within}
 use Rattle.live_core.proofs.Filtered.{rest_ascends}
 

@@ -6,7 +6,8 @@ use Rattle.std.specs.List.{filter}
 use Rattle.std.proofs.lemmas.Bool.{eq-eqb}
 use Rattle.std.proofs.lemmas.Option.{none-some, same_Some}
 use Rattle.task_table.specs.declared.seat.TaskRef.{TaskRef}
-use Rattle.live_core.specs.own.Slots.{number_in, is_held, Ascends, IsIndex}
+use Rattle.live_core.specs.Empties.{number_in}
+use Rattle.live_core.specs.own.Slots.{is_held, Ascends, IsIndex}
 
 -- what passes a test stands in the list
 filtered_from : (test : TaskRef → Bool) (entries : List TaskRef) (n : ℕ) (x : TaskRef) → slice_get (filter test entries) n ≡ Some x → (i : ℕ) × (slice_get entries i ≡ Some x)

@@ -7,7 +7,7 @@ use Rattle.std.proofs.lemmas.Option.{none-some}
 use Rattle.task_table.specs.declared.seat.Seat.{Seat}
 use Rattle.task_table.specs.Seats.{slot_of, IsNew}
 use Rattle.live_core.specs.Said.{tasks_in}
-use Rattle.live_core.specs.own.Slots.{held_numbers, number_in}
+use Rattle.live_core.specs.Empties.{held_numbers, number_in}
 
 abbrev number_of : Option Seat → Option ℕ
 number_of o = option_map (λ (x : Seat). x.number) o

@@ -5,7 +5,8 @@ use Rattle.std.proofs.Math.ListN.{set}
 use Rattle.std.proofs.lemmas.Option.{none-some, same_Some, slice_get_within}
 use Rattle.task_table.specs.declared.seat.TaskRef.{TaskRef}
 use Rattle.task_table.proofs.Written.{by_eqb}
-use Rattle.live_core.specs.own.Slots.{number_in, HasNone, IsIndex}
+use Rattle.live_core.specs.Empties.{number_in}
+use Rattle.live_core.specs.own.Slots.{HasNone, IsIndex}
 use Rattle.live_core.proofs.Emptied.{number_here, number_stays, number_within}
 
 -- ---- one entry more

@@ -11,7 +11,8 @@ use Rattle.task_table.specs.Tables.{TableView, workers_of}
 use Rattle.task_table.specs.Changes.{emptied, grown}
 use Rattle.task_table.specs.Endings.{SweepEnds}
 use Rattle.live_core.specs.Lives.{LiveView, KeepsSlots, AreGiven, AreApart, AreAlive, Stays}
-use Rattle.live_core.specs.own.Slots.{held_numbers, number_in, LeavesNumbers, LeavesSlots, LeavesBelow}
+use Rattle.live_core.specs.Empties.{held_numbers, number_in}
+use Rattle.live_core.specs.own.Slots.{LeavesNumbers, LeavesSlots, LeavesBelow}
 use Rattle.live_core.specs.own.Formed.{AreNoted}
 use Rattle.live_core.proofs.Alive.{set_case, LeavesThere}
 use Rattle.live_core.proofs.Held.{number_at, number_there, held_length, held_grown}

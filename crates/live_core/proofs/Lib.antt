@@ -21,5 +21,8 @@ pub mod Swept
 pub mod Called
 pub mod Few
 pub mod Waiting
+pub mod Together
+pub mod Imaging
+pub mod Restored
 pub mod Limited
 pub mod Leaving

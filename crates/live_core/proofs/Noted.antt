@@ -10,7 +10,8 @@ use Rattle.live_core.specs.Said.{AreTaken, GrowsWhereTaken, tasks_in}
 use Rattle.task_table.specs.declared.seat.Seat.{Seat}
 use Rattle.task_table.specs.declared.seat.TaskRef.{TaskRef}
 use Rattle.task_table.specs.Seats.{slot_of, IsNew}
-use Rattle.live_core.specs.own.Slots.{held_numbers, AreEmpty, IsIndex}
+use Rattle.live_core.specs.Empties.{held_numbers, AreEmpty}
+use Rattle.live_core.specs.own.Slots.{IsIndex}
 use Rattle.live_core.specs.own.Formed.{AreNoted}
 use Rattle.live_core.proofs.Emptied.{taken, released, has_room, last_empty, length_set}
 use Rattle.live_core.proofs.Indexed.{indexed_new, indexed_emptied, number_given}

@@ -20,7 +20,7 @@ use Rattle.live_core.specs.Lives.{LiveView, Happens, never, quiet, passed, AreAl
 use Rattle.live_core.specs.Events.{Fails, finish_reply}
 use Rattle.live_core.specs.own.Formed.{AreNoted, IsLive}
 use Rattle.live_core.proofs.Steps.{meets_clock, meets_other}
-use Rattle.live_core.proofs.Living.{live_event}
+use Rattle.live_core.proofs.Living.{live_on}
 use Rattle.live_core.proofs.Noted.{noted_same}
 
 -- an event that looks at no number and no moment, and ends no task
@@ -48,12 +48,12 @@ fails_there m table ended y error event unclocked looks none same steps =
     }
 
 -- what stays true of one whose table took the step of an event
-pub live_steps : (m : LiveView) (table : TableView) (ended : List TaskRef) (y : Happening) (r : Reply) (free : List ℕ) (entries : List TaskRef) (slot_room ended_room : ℕ) (free' : List ℕ) (entries' : List TaskRef) (slot_room' more_ended : ℕ) →
-    IsLive m free entries slot_room ended_room → Happens m (record m { table = table; ended = ended }) y r → table.shut ≡ m.table.shut → more_ended ≡ ended_room → AreNoted table.slots m.count free' entries' slot_room' ended_room →
-    AreAlive table.slots → IsLive (record m { table = table; ended = ended }) free' entries' slot_room' more_ended
-live_steps m table ended y r free entries slot_room ended_room free' entries' slot_room' more_ended live happens same room noted alive =
-    live_event m (record m { table = table; ended = ended }) y r free entries slot_room ended_room free' entries' slot_room' more_ended live happens
-    (λ q. live.unshut (sym same ∙ q)) live.earliest (subst (λ n. AreNoted table.slots m.count free' entries' slot_room' n) (sym room) noted) alive
+pub live_steps : (m : LiveView) (table : TableView) (ended : List TaskRef) (free : List ℕ) (entries : List TaskRef) (slot_room ended_room : ℕ) (free' : List ℕ) (entries' : List TaskRef) (slot_room' more_ended : ℕ) →
+    IsLive m free entries slot_room ended_room → table.moment ≡ m.table.moment → table.shut ≡ m.table.shut → more_ended ≡ ended_room → AreNoted table.slots m.count free' entries' slot_room' ended_room → AreAlive table.slots →
+    IsLive (record m { table = table; ended = ended }) free' entries' slot_room' more_ended
+live_steps m table ended free entries slot_room ended_room free' entries' slot_room' more_ended live moment same room noted alive =
+    live_on m (record m { table = table; ended = ended }) free entries slot_room ended_room free' entries' slot_room' more_ended live live.few refl (omega (arith, moment))
+    (λ q. live.unshut (sym same ∙ q)) (subst (λ n. AreNoted table.slots m.count free' entries' slot_room' n) (sym room) noted) alive
 
 -- ---- a clock
 
@@ -62,18 +62,17 @@ taken_within now t taken = let parts = and_parts (nat_le now t) (nat_le t longes
 
 -- what stays true of an executor whose clock was accepted
 pub live_clock : (m : LiveView) (table : TableView) (ended : List TaskRef) (t : ℕ) (free : List ℕ) (entries : List TaskRef) (slot_room ended_room more_ended : ℕ) →
-    IsLive m free entries slot_room ended_room → ended ≡ [] → is_accepted m.table.moment t ≡ true → table ≡ at_moment m.table t → EventSteps m.table table (h.Clock t) (bare a.Clock) → more_ended ≡ ended_room →
+    IsLive m free entries slot_room ended_room → is_accepted m.table.moment t ≡ true → table ≡ at_moment m.table t → more_ended ≡ ended_room →
     IsLive (record { table = table; count = m.count; accepted = m.accepted; earliest = t + 1; ended = ended }) free entries slot_room more_ended
-live_clock m table ended t free entries slot_room ended_room more_ended live none taken is steps room =
-    let within = taken_within m.table.moment t taken in
-    let new : LiveView = record { table = table; count = m.count; accepted = m.accepted; earliest = t + 1; ended = ended } in
-    live_event m new (h.Clock t) (bare a.Clock) free entries slot_room ended_room free entries slot_room more_ended live
-    (clocks_there m table ended t none live.stands.behind within.0 is steps)
-    (λ q. live.unshut (sym (ap (λ (v : TableView). v.shut) is) ∙ q))
-    (omega (arith, within.1))
-    (subst (λ n. AreNoted table.slots m.count free entries slot_room n) (sym room)
-    (noted_same m.table.slots table.slots m.count free free entries entries slot_room slot_room ended_room (ap (λ (v : TableView). v.slots) is) refl refl refl live.noted))
-    (subst (λ (v : TableView). AreAlive v.slots) (sym is) live.alive)
+live_clock m table ended t free entries slot_room ended_room more_ended live taken is room = record {
+  few = live.few;
+  behind = omega (arith, ap (λ (v : TableView). v.moment) is);
+  unshut = λ q. live.unshut (sym (ap (λ (v : TableView). v.shut) is) ∙ q);
+  earliest = omega (arith, (taken_within m.table.moment t taken).1);
+  noted = subst (λ n. AreNoted table.slots m.count free entries slot_room n) (sym room)
+      (noted_same m.table.slots table.slots m.count free free entries entries slot_room slot_room ended_room (ap (λ (v : TableView). v.slots) is) refl refl refl live.noted);
+  alive = subst (λ (v : TableView). AreAlive v.slots) (sym is) live.alive;
+}
 
 -- ---- a finish, which ends a run or is answered by an error
 
@@ -86,13 +85,3 @@ pub finish_fails : (m : LiveView) (table : TableView) (ended : List TaskRef) (wo
     IfErr r (λ error. FailsFinish m.table worker ending error) → IfErr r (λ error. IsFinishError m.table worker error × Fails m (record m { table = table; ended = ended }) (h.Finish worker ending) error)
 finish_fails m table ended worker ending (Ok e) none same fails = tt
 finish_fails m table ended worker ending (Err error) none same fails = (fails.0, fails_there m table ended (h.Finish worker ending) error refl refl tt none same fails.1)
-
--- what stays true of the executor
-pub live_finish : (m : LiveView) (table : TableView) (ended : List TaskRef) (worker : ℕ) (ending : Ending) (r : Result Ended EventError) (free : List ℕ) (entries : List TaskRef) (slot_room ended_room : ℕ) (free' : List ℕ) (entries' : List TaskRef) (slot_room' more_ended : ℕ) →
-    IsLive m free entries slot_room ended_room → IfOk r (λ e. Happens m (record m { table = table; ended = ended }) (h.Finish worker ending) (finish_reply worker e)) →
-    IfErr r (λ error. IsFinishError m.table worker error × Fails m (record m { table = table; ended = ended }) (h.Finish worker ending) error) →
-    table.shut ≡ m.table.shut → more_ended ≡ ended_room → AreNoted table.slots m.count free' entries' slot_room' ended_room → AreAlive table.slots → IsLive (record m { table = table; ended = ended }) free' entries' slot_room' more_ended
-live_finish m table ended worker ending (Ok e) free entries slot_room ended_room free' entries' slot_room' more_ended live happens fails same room noted alive =
-    live_steps m table ended (h.Finish worker ending) (finish_reply worker e) free entries slot_room ended_room free' entries' slot_room' more_ended live happens same room noted alive
-live_finish m table ended worker ending (Err error) free entries slot_room ended_room free' entries' slot_room' more_ended live happens fails same room noted alive =
-    live_steps m table ended (h.Finish worker ending) (bare (a.Error error)) free entries slot_room ended_room free' entries' slot_room' more_ended live fails.1.happens same room noted alive

@@ -5,7 +5,7 @@ use Rattle.std.specs.List.{range_with_len}
 use Rattle.std.proofs.lemmas.Bool.{eqb-true, false_from_ne_true}
 use Rattle.std.proofs.lemmas.List.{append-nil}
 use Rattle.queue_code.specs.Calls.{how_many}
-use Rattle.live_core.specs.own.Slots.{number_in, is_among, AreEmpty}
+use Rattle.live_core.specs.Empties.{number_in, is_among, AreEmpty}
 use Rattle.live_core.proofs.Emptied.{among_more, or_parts, once_more, length_more}
 
 -- a range with one more at its end

@@ -14,7 +14,8 @@ use Rattle.task_table.specs.Ends.{effect_of}
 use Rattle.task_table.specs.Changes.{at_moment, cancelled, cancel_by, cancel_in, emptied}
 use Rattle.task_table.proofs.Written.{by_eqb}
 use Rattle.live_core.specs.Cancels.{IsHeldAlive}
-use Rattle.live_core.specs.own.Slots.{held_numbers, is_held, HasEntry, HasNone, IsIndex}
+use Rattle.live_core.specs.Empties.{held_numbers}
+use Rattle.live_core.specs.own.Slots.{is_held, HasEntry, HasNone, IsIndex}
 use Rattle.live_core.specs.own.Places.{IsSlotOf}
 use Rattle.live_core.proofs.Held.{number_at, number_there, held_put, new_number}
 use Rattle.live_core.specs.own.Formed.{AreNoted}

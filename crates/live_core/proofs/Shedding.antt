@@ -16,7 +16,7 @@ use Rattle.task_table.specs.Firsts.{IsFirstDue, holds_kept, kept_in}
 use Rattle.task_table.specs.Runs.{IsFree, IsFull, Drops}
 use Rattle.task_table.specs.Changes.{put, unkept, emptied}
 use Rattle.task_table.proofs.Written.{by_eqb, set_writes, slot_within}
-use Rattle.live_core.specs.own.Slots.{held_numbers}
+use Rattle.live_core.specs.Empties.{held_numbers}
 use Rattle.live_core.specs.own.Formed.{AreNoted}
 use Rattle.live_core.specs.own.Shed.{Sheds}
 use Rattle.live_core.proofs.Held.{held_put}

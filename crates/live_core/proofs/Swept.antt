@@ -22,7 +22,7 @@ use Rattle.task_table.specs.Changes.{emptied, unkept, swept}
 use Rattle.task_table.proofs.Written.{by_eqb, apart_eqb, slot_within, Writes, set_writes}
 use Rattle.task_table.proofs.Starts.{stands_before}
 use Rattle.live_core.specs.own.Places.{IsEmptyAt}
-use Rattle.live_core.specs.own.Slots.{held_numbers}
+use Rattle.live_core.specs.Empties.{held_numbers}
 use Rattle.live_core.specs.own.Formed.{AreNoted}
 use Rattle.live_core.proofs.Held.{held_put, held_mapped}
 use Rattle.live_core.proofs.Noted.{noted_still}

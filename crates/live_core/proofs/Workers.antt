@@ -24,7 +24,7 @@ use Rattle.task_table.specs.Changes.{begun, ended}
 use Rattle.task_table.proofs.Written.{set_writes, slot_within}
 use Rattle.task_table.proofs.Starts.{stands_before}
 use Rattle.live_core.specs.Events.{start_reply, finish_reply, IsRunBy}
-use Rattle.live_core.specs.own.Slots.{held_numbers}
+use Rattle.live_core.specs.Empties.{held_numbers}
 use Rattle.live_core.specs.own.Formed.{AreNoted}
 use Rattle.live_core.specs.own.Shed.{Sheds, released}
 use Rattle.live_core.proofs.Held.{held_put, number_there}

@@ -7,4 +7,6 @@ pub mod Events
 pub mod Cancels
 pub mod Shutting
 pub mod Lined
+pub mod Empties
+pub mod Snapshots
 pub mod own

@@ -4,3 +4,4 @@ pub mod Changes
 pub mod Formed
 pub mod Shed
 pub mod Places
+pub mod Restoring

@@ -1,6 +1,7 @@
 //! The slot that a task has.
 ghost use Rattle.std.specs.Prelude.{ℕ};
-ghost use Rattle.live_core.specs.own.Slots.{IsIndex, held_numbers};
+ghost use Rattle.live_core.specs.Empties.{held_numbers};
+ghost use Rattle.live_core.specs.own.Slots.{IsIndex};
 ghost use Rattle.live_core.specs.own.Places.{IsSlotOf};
 
 use crate::index::holds;

@@ -1,12 +1,16 @@
 //! Which slot each number has.
-ghost use Rattle.std.specs.Prelude.{◌≡◌, ℕ, ◌+◌, ◌<◌, ◌≤◌, ◌++◌, [], ◌∷◌, length, take, drop, true, false, Some, slice_get, IfSome, IfNone, OnOk, OnErr};
+ghost use Rattle.std.specs.Prelude.{◌≡◌, ℕ, ◌+◌, ◌<◌, ◌≤◌, ◌++◌, [], ◌∷◌, length, take, drop, true, false, Some, slice_get, IfSome, IfNone, IfOk, OnOk, OnErr};
 ghost use Rattle.std.specs.List.{filter};
+ghost use Rattle.task_table.specs.declared.seat.Seat as seats;
+ghost use Rattle.task_table.specs.Images.{IsImageIn, AreImages};
+ghost use Rattle.task_table.specs.Seats.{slot_of};
 ghost use Rattle.live_core.specs.Said.{tasks_in};
-ghost use Rattle.live_core.specs.own.Slots.{IsBelow, HasEntry, HasNone, Rises, entries_of, held_numbers, is_held};
+ghost use Rattle.live_core.specs.Empties.{held_numbers};
+ghost use Rattle.live_core.specs.own.Slots.{IsBelow, HasEntry, HasNone, IsIndex, Rises, entries_of, is_held};
 
 use std::alloc::{AllocError, Allocator};
 use std::marker::Model;
-use task_table::{Seat, TaskRef, TaskTable};
+use task_table::{Image, Seat, TaskRef, TaskTable, each_table_is_formed};
 
 /// The slots of tasks by their numbers. An entry whose slot holds another task by now, or none, is stale.
 ///
@@ -52,6 +56,23 @@ impl<A: Allocator> NumberIndex<A> {
             Some(place) => Some(self.slots[place]),
             None => None,
         }
+    }
+
+    /// What is written of the tasks of this table, of which there are at most so many, ascending by number.
+    ///
+    /// # Errors
+    ///
+    /// `AllocError` where the memory for it is refused.
+    pub(crate) fn images<B: Allocator, C: Allocator>(
+        &self,
+        table: &TaskTable<B>,
+        tasks: usize,
+        alloc: C,
+    ) -> Result<Vec<Image, C>, AllocError>
+        requires { (count : ℕ) × IsIndex (held_numbers table.now.slots) self.now.entries count }
+        ensures { IfOk result (λ v. AreImages table.now v.items) }
+    {
+        images_of(&self.numbers, &self.slots, table, tasks, alloc)
     }
 
     /// Drops the entries whose slot in this table holds another task by now, or none. At most so many tasks have a slot.
@@ -180,6 +201,50 @@ fn gather_held(
         }
     }
     from
+}
+
+/// What is written of the tasks of a table, of which there are at most so many, where these are the entries of its index.
+///
+/// # Errors
+///
+/// `AllocError` where the memory for it is refused.
+fn images_of<A: Allocator, B: Allocator>(
+    numbers: &[u64],
+    slots: &[u32],
+    table: &TaskTable<A>,
+    tasks: usize,
+    alloc: B,
+) -> Result<Vec<Image, B>, AllocError>
+    requires pairs { length numbers.now ≡ length slots.now }
+    requires index { (count : ℕ)
+        × IsIndex (held_numbers table.now.slots) (entries_of numbers.now slots.now) count }
+    ensures { IfOk result (λ v. AreImages table.now v.items) }
+{
+    each_table_is_formed(table);
+    let mut images = Vec::with_capacity(alloc, tasks)?;
+    for place in 0..numbers.len() {
+        let number = numbers[place];
+        let slot = slots[place];
+        if let Some(image) = image_of(table, TaskRef { number, slot }) {
+            images.push(image)?;
+        }
+    }
+    Ok(images)
+}
+
+/// What is written of a task, and `None` where its slot holds another one, or none.
+fn image_of<A: Allocator>(table: &TaskTable<A>, task: TaskRef) -> Option<Image>
+    ensures slot { IfSome result (λ r. r.slot ≡ task.slot) }
+    ensures number { IfSome result (λ r. r.seat.number ≡ task.number) }
+    ensures is { IfSome result (λ r. IsImageIn table.now r) }
+    ensures none { IfNone result ((x : seats.Seat) → slot_of table.now.slots task.slot ≡ Some x
+        → x.number ≡ task.number → ⊥) }
+{
+    let image = table.image(task.slot)?;
+    if image.seat.number != task.number {
+        return None;
+    }
+    Some(image)
 }
 
 /// Whether the slot of a task holds it.

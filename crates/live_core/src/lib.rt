@@ -44,9 +44,9 @@
 //! A contract sees the executor as a [`LiveView`](../../specs/Lives.antt). The calls need not be known before: for each call and
 //! event its contract says, whatever calls and history led here, that the executor stands where the longer ones lead, and what is
 //! answered is the answer of the executor's equations (`Calls` and `Happens`, in `specs/Lives.antt`; the answers are in
-//! `specs/Said.antt`, `Events.antt`, `Cancels.antt` and `Shutting.antt`). That there are such for each executor
-//! is a law ([`each_executor_stands`]). So its lines, as [`add_lines`](ScheduledExecutor::add_lines) adds them, are those of a
-//! trace of all calls made.
+//! `specs/Said.antt`, `Events.antt`, `Cancels.antt` and `Shutting.antt`). A new executor stands where nothing happened, and so each
+//! one stands somewhere that was made new, or restored from what such a one wrote. So its lines, as
+//! [`add_lines`](ScheduledExecutor::add_lines) adds them, are those of a trace of all calls made.
 //!
 //! A submission has a number, 0, 1, and so on, whether it is accepted or rejected, and an accepted one has a task. A [`TaskRef`]
 //! names the task by its number and the slot that it has while it is alive, and no longer: a slot holds no task of which nothing
@@ -55,6 +55,19 @@
 //! go by the number alone, so a slot that another task uses by now, or a forged one, does no harm. Once a task is over, as it was run,
 //! ended, or cancelled and left the queue, its slot may hold another one. [`ended`](ScheduledExecutor::ended) has the tasks that the
 //! last call or event ended: the list of `shutdownNow`, and what a shutdown or a policy cancels.
+//!
+//! # Written and restored
+//!
+//! [`frame`](ScheduledExecutor::frame), [`images`](ScheduledExecutor::images) and [`empty_slots`](ScheduledExecutor::empty_slots)
+//! give what is to be written of an executor, and [`restore`](ScheduledExecutor::restore) makes one of that. It stands where the
+//! written one stood ([`what_is_written_is_of_one_executor`]), so that each call and event is answered as that one would answer it
+//! ([`one_history_answers_alike`], [`one_history_tells_alike`]): a [`TaskRef`] that was given out names the same task, and a
+//! task that comes next has the same slot. What the last happening ended is not written.
+//!
+//! What is written of no executor that is sound is refused. Each one is sound ([`each_executor_is_sound`]); but not each sound one
+//! stands somewhere, as no calls lead to a run that began before one that was due earlier. Made of a forged text, such a one is
+//! safe, stays sound, and its table shows a state ([`each_table_shows_a_state`](task_table::each_table_shows_a_state)); of
+//! its answers the clauses say nothing.
 //!
 //! # Moments
 //!
@@ -77,22 +90,24 @@
 //!
 //! # Memory and cost
 //!
-//! That memory was refused is told by `new`, by the four submissions, where each slot holds a task, by
-//! [`reserve`](ScheduledExecutor::reserve), and for lines by `add_lines`, and by no other call; that no other one asks for memory is
-//! tested. Where it is refused, nothing has changed. There are as many slots as `reserve` was asked for, or at most twice as many as there
-//! were tasks alive at once, and two; none is given back. A submission that makes more makes at least as many as there are. Each has room
-//! for a task, an entry in each of two queues, three entries in an index by number, and notes that it is empty and that its task was ended.
+//! That memory was refused is told by `new` and `restore`, by the four submissions, where each slot holds a task, by
+//! [`reserve`](ScheduledExecutor::reserve), for lines by `add_lines`, for what is written by `images`, and by no other call; that no other
+//! one asks for memory is tested. Where it is refused, nothing has changed. There are as many slots as `reserve` was asked for, or at most
+//! twice as many as there were tasks alive at once, and two; none is given back. A submission that makes more makes at least as many as
+//! there are. Each has room for a task, an entry in each of two queues, three entries in an index by number, and notes that it is empty and
+//! that its task was ended.
 //!
 //! With n tasks alive, a submission, a start, a finish or a cancel takes a time in the order of log n, for changes of two heaps and
 //! a search. A submission where the index is full goes over it, from the newest entry on until each task that is alive is found, and
 //! one where all slots are taken over these too, which is constant on average. A start and a sweep take as long as that for each kept
 //! task that they meet. A shutdown or a policy that sweeps goes over all slots, and sorts what it ends. `ask` goes over the workers.
-//! All other calls take constant time, but `reserve`, and `add_lines`, which goes over what was ended.
+//! `images` goes over the index, and `restore` over all slots, each with a change of a heap for each task. All other calls take
+//! constant time, but `reserve`, and `add_lines`, which goes over what was ended.
 //!
 //! # Tests
 //!
-//! They stand in `live_tests`, as rows of what is done and what is told. Each row is played with ample memory, and
-//! again with each growth that it asks for refused in turn.
+//! They stand in `live_tests`, as rows of what is done and what is told. Each row is played with ample memory, with an executor
+//! that is restored before it, and again with each growth that it asks for refused in turn.
 #![tactic(auto)]
 
 mod ahead;
@@ -102,6 +117,7 @@ mod error;
 mod events;
 mod executor;
 mod finding;
+mod frame;
 mod index;
 mod laws;
 mod lines;
@@ -109,6 +125,7 @@ mod notes;
 mod place;
 mod releasing;
 mod reserving;
+mod restoring;
 mod room;
 mod running;
 mod shutting;
@@ -116,9 +133,14 @@ mod spent;
 mod submissions;
 mod submitting;
 mod sweeps;
+mod writing;
 
 pub use answers::Submitted;
 pub use error::{CallError, LinesError, MakeError};
 pub use executor::ScheduledExecutor;
-pub use laws::each_executor_stands;
-pub use task_table::{Asked, Begun, Ended, StartError, TaskRef};
+pub use frame::ExecutorFrame;
+pub use laws::{
+    each_executor_is_sound, one_history_answers_alike, one_history_tells_alike,
+    what_is_written_is_of_one_executor,
+};
+pub use task_table::{Asked, Begun, Ended, Frame, Image, RestoreError, StartError, TaskRef};

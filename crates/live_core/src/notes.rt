@@ -1,13 +1,16 @@
 //! Which slots are empty, and which slot each number has.
-ghost use Rattle.std.specs.Prelude.{◌≡◌, ℕ, ◌+◌, ◌-◌, ◌*◌, ◌<◌, ◌≤◌, ◌++◌, List, [], ◌∷◌, length, IfSome, IfNone, OnOk, OnErr};
+ghost use Rattle.std.specs.Prelude.{◌≡◌, ℕ, ◌+◌, ◌-◌, ◌*◌, ◌<◌, ◌≤◌, ◌++◌, List, [], ◌∷◌, length, IfSome, IfNone, IfOk, OnOk, OnErr};
 ghost use Rattle.std.specs.List.{range_with_len};
+ghost use Rattle.task_table.specs.Images.{Ascends, AreImages};
 ghost use Rattle.live_core.specs.Said.{tasks_in};
-ghost use Rattle.live_core.specs.own.Slots.{IsBelow, HasEntry, HasNone, IsIndex, held_numbers};
+ghost use Rattle.live_core.specs.Empties.{held_numbers};
+ghost use Rattle.live_core.specs.own.Slots.{IsBelow, HasEntry, HasNone, IsIndex};
+ghost use Rattle.live_core.specs.own.Restoring.{refs_of};
 
 use crate::index::NumberIndex;
 use std::alloc::{AllocError, Allocator};
 use std::marker::Model;
-use task_table::{TaskRef, TaskTable};
+use task_table::{Image, TaskRef, TaskTable};
 
 /// What is noted of the slots of a table: the empty ones, and an index of the others by the numbers of their tasks.
 ///
@@ -49,6 +52,13 @@ impl<A: Allocator> Notes<A> {
         self.free.len()
     }
 
+    /// The empty slots, the one that was noted last behind the others.
+    pub(crate) fn empty_slots(&self) -> &[u32]
+        ensures { result.now ≡ self.now.free }
+    {
+        &self.free
+    }
+
     /// Takes out the empty slot that was noted last, and `None` where there is none.
     pub(crate) fn take(&mut self) -> Option<u32>
         ensures taken { IfSome result (λ slot. self.old.free ≡ self.new.free ++ slot ∷ []) }
@@ -81,6 +91,23 @@ impl<A: Allocator> Notes<A> {
         ensures none { IfNone result (HasNone self.now.entries number) }
     {
         self.index.find(number)
+    }
+
+    /// What is written of the tasks of this table, of which there are at most so many, ascending by number.
+    ///
+    /// # Errors
+    ///
+    /// `AllocError` where the memory for it is refused.
+    pub(crate) fn images<B: Allocator, C: Allocator>(
+        &self,
+        table: &TaskTable<B>,
+        tasks: usize,
+        alloc: C,
+    ) -> Result<Vec<Image, C>, AllocError>
+        requires { (count : ℕ) × IsIndex (held_numbers table.now.slots) self.now.entries count }
+        ensures { IfOk result (λ v. AreImages table.now v.items) }
+    {
+        self.index.images(table, tasks, alloc)
     }
 
     /// Drops the entries of the index that are stale for this table's slots, where there is no room for one more. Then there is, where
@@ -117,6 +144,31 @@ impl<A: Allocator> Notes<A> {
         self.free.reserve(slots as usize)?;
         // With three times as many entries as slots, at least two of three are stale when it is full.
         self.index.reserve(3 * slots as usize)
+    }
+
+    /// Notes that these slots are empty, in their order.
+    pub(crate) fn add_all_empty(&mut self, slots: &[u32])
+        requires none { self.old.free ≡ [] }
+        requires room { length slots.now ≤ self.old.slot_room }
+        ensures { self.new ≡ record self.old { free = slots.now } }
+    {
+        for slot in slots {
+            self.release(*slot);
+        }
+    }
+
+    /// Notes the slots of these tasks, which ascend by number.
+    pub(crate) fn add_all(&mut self, tasks: &[Image])
+        requires none { self.old.entries ≡ [] }
+        requires ascending { Ascends tasks.now }
+        requires room { length tasks.now ≤ self.old.index_room }
+        ensures { self.new ≡ record self.old { entries = refs_of tasks.now } }
+    {
+        for image in tasks {
+            let number = image.seat.number;
+            let slot = image.slot;
+            self.add(TaskRef { number, slot });
+        }
     }
 
     /// Notes that the slots from one to the one before another are empty.

@@ -53,6 +53,7 @@ pub(crate) fn place<A: Allocator>(
     ensures workers { workers_of table.new ≡ workers_of table.old }
     ensures shut { table.new.shut ≡ table.old.shut }
     ensures ended { ended.new.items ≡ [] }
+    ensures moment { table.new.moment ≡ at }
     ensures slots { length table.new.slots ≡ length table.old.slots }
     ensures tasks { tasks_in table.new.slots ≡ tasks_in table.old.slots + 1 }
     ensures steps { CallSteps table.old table.new (at, call.Submit count timing delay)

@@ -42,6 +42,7 @@ pub(crate) fn begin_run<A: Allocator>(
     ensures alive { AreAlive table.old.slots → AreAlive table.new.slots }
     ensures leaves { LeavesSlots table.old.slots table.new.slots }
     ensures workers { workers_of table.new ≡ workers_of table.old }
+    ensures moment { table.new.moment ≡ table.old.moment }
     ensures shut { table.new.shut ≡ table.old.shut }
     ensures runs { IfSome result (λ b. IsRunBy table.new worker b.task) }
     ensures numbered { IfSome result (λ b. b.run < run_limit) }
@@ -95,6 +96,7 @@ pub(crate) fn end_run<A: Allocator>(
     ensures alive { AreAlive table.old.slots → AreAlive table.new.slots }
     ensures leaves { LeavesSlots table.old.slots table.new.slots }
     ensures workers { workers_of table.new ≡ workers_of table.old }
+    ensures moment { table.new.moment ≡ table.old.moment }
     ensures shut { table.new.shut ≡ table.old.shut }
     ensures ran { IfOk result (λ ended. IsRunBy table.old worker ended.task) }
     ensures left { IfOk result (λ ended. IsLeftThere table.new ended.outcome ended.task) }

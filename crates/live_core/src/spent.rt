@@ -39,7 +39,7 @@ pub(crate) fn release_spent<A: Allocator>(table: &mut TaskTable<A>, notes: &mut 
 }
 
 /// Whether nothing may come of a task any more: it does not wait, is not kept, and no run of it is under way.
-fn is_spent(seat: &Seat) -> bool
+pub(crate) fn is_spent(seat: &Seat) -> bool
     ensures { result ≡ not (is_alive (task_in seat.now)) }
 {
     if seat.kept || matches!(seat.phase, Stage::Running) {

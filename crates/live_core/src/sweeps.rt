@@ -48,6 +48,7 @@ pub(crate) fn set_policy<A: Allocator>(
     ensures alive { AreAlive table.old.slots → AreAlive table.new.slots }
     ensures leaves { LeavesSlots table.old.slots table.new.slots }
     ensures workers { workers_of table.new ≡ workers_of table.old }
+    ensures moment { table.new.moment ≡ at }
     ensures gone { AreGone table.old table.new ended.new.items }
     ensures shut { table.new.shut ≡ table.old.shut }
     ensures steps { CallSteps table.old table.new (at, call.SetPolicy which value)
@@ -84,6 +85,7 @@ pub(crate) fn shut_down<A: Allocator>(
     ensures alive { AreAlive table.old.slots → AreAlive table.new.slots }
     ensures leaves { LeavesSlots table.old.slots table.new.slots }
     ensures workers { workers_of table.new ≡ workers_of table.old }
+    ensures moment { table.new.moment ≡ at }
     ensures gone { AreGone table.old table.new ended.new.items }
     ensures shut { table.new.shut ≡ true }
     ensures steps { CallSteps table.old table.new (at, call.Shutdown)
@@ -120,6 +122,7 @@ pub(crate) fn shut_down_now<A: Allocator>(
     ensures alive { AreAlive table.old.slots → AreAlive table.new.slots }
     ensures leaves { LeavesSlots table.old.slots table.new.slots }
     ensures workers { workers_of table.new ≡ workers_of table.old }
+    ensures moment { table.new.moment ≡ at }
     ensures gone { AreGone table.old table.new ended.new.items }
     ensures shut { table.new.shut ≡ true }
     ensures steps { CallSteps table.old table.new (at, call.ShutdownNow)

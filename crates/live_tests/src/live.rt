@@ -4,6 +4,7 @@ mod events;
 mod growths;
 mod lines;
 mod moments;
+mod restoring;
 mod rooms;
 mod shutting;
 mod slots;
@@ -15,6 +16,7 @@ mod usage;
 use crate::words::{Row, compare, read_row, read_rows};
 use growths::{refuse_each, refuse_firsts};
 use live_core::{MakeError, ScheduledExecutor};
+use restoring::play_restored;
 use std::alloc::{AllocGlobal, Allocator};
 use std::process::Abort;
 use std::test::Fail;
@@ -52,12 +54,13 @@ fn play_line<A: Allocator>(
     Ok(())
 }
 
-/// Does the same with new executors of two workers: with ample memory, with the first growth of each step refused, and with each
-/// growth of all steps refused in turn.
+/// Does the same with new executors of two workers: with ample memory, with a new one for each row that is restored from the one
+/// before, with the first growth of each step refused, and with each growth of all steps refused in turn.
 fn play_case(rt: &(impl AllocGlobal + Abort), case: &str) -> Result<(), Fail> {
     let rows = read_rows(rt.alloc(), case)?;
     let mut executor = ScheduledExecutor::new(rt.alloc(), 2)?;
     play_rows(rt, &mut executor, &rows);
+    play_restored(rt, &rows)?;
     refuse_firsts(rt, &rows)?;
     refuse_each(rt, &rows)
 }

@@ -81,6 +81,6 @@ mod timers;
 
 pub use answers::{Finished, Run};
 pub use error::{FinishError, PollError};
-pub use laws::all_timers_stand;
+pub use laws::all_timers_are_sound;
 pub use live_core::{CallError, MakeError, Submitted, TaskRef};
 pub use timers::Timers;

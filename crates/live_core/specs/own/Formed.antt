@@ -9,8 +9,9 @@ use Rattle.task_table.specs.declared.seat.TaskRef.{TaskRef}
 use Rattle.task_table.specs.Seats.{task_in, slot_of, is_alive}
 use Rattle.task_table.specs.Tables as tables
 use Rattle.task_table.specs.Tables.{TableView, workers_of}
-use Rattle.live_core.specs.Lives.{LiveView, Stands, AreAlive}
-use Rattle.live_core.specs.own.Slots.{held_numbers, AreEmpty, IsIndex}
+use Rattle.live_core.specs.Lives.{LiveView, never, AreAlive}
+use Rattle.live_core.specs.Empties.{held_numbers, AreEmpty}
+use Rattle.live_core.specs.own.Slots.{IsIndex}
 
 -- the empty slots of a table and the index of its numbers are known, and there is room to note that each slot is empty, that it has a
 -- task, and that its task was ended
@@ -24,12 +25,11 @@ pub record AreNoted (slots : List (Option Seat)) (count : ℕ) (free : List ℕ)
 abbrev pub AreAliveBut : ℕ → List (Option Seat) → Type 0
 AreAliveBut slot slots = (i : ℕ) (x : Seat) → slot_of slots i ≡ Some x → (slot ≡ i → ⊥) → is_alive (task_in x) ≡ true
 
--- what stays true of each executor: there are calls and a history where it stands; until it is shut, each submission was accepted;
+-- what stays true of each executor: numbers and moments are within their limits; until it is shut, each submission was accepted;
 -- its slots are noted; and none holds a task of which nothing may come any more
 pub record IsLive (m : LiveView) (free : List ℕ) (entries : List TaskRef) (slot_room ended_room : ℕ) : Type 0 where
-  pub calls : List Planned
-  pub past : List HistoryEntry
-  pub stands : Stands m calls past
+  pub few : m.count ≤ never
+  pub behind : m.earliest ≤ m.table.moment + 1
   pub unshut : m.table.shut ≡ false → m.accepted ≡ m.count
   pub earliest : m.earliest ≤ longest + 1
   pub noted : AreNoted m.table.slots m.count free entries slot_room ended_room

@@ -76,3 +76,21 @@ fn a_task_is_submitted(rt: HostRuntime) -> Result<(), Fail> {
     // end of example
     Ok(())
 }
+
+#[test]
+fn an_executor_is_restored(rt: HostRuntime) -> Result<(), Fail> {
+    let alloc = rt.alloc();
+    // example: live_core::ScheduledExecutor::restore
+    let mut executor = ScheduledExecutor::new(alloc, 1)?;
+    executor.schedule(7, 5)?;
+    let frame = executor.frame();
+    let tasks = executor.images(alloc)?;
+    let empty = executor.empty_slots();
+    let other = ScheduledExecutor::restore(alloc, &frame, &tasks, empty)?;
+    assert_eq!(rt;
+        (other.now(), other.len(), other.next_due()),
+        (7, 1, Some(12))
+    );
+    // end of example
+    Ok(())
+}

@@ -1,6 +1,7 @@
 -- An entry is kept or dropped.
 use Rattle.std.proofs.Common.{◌-◌, get_or, set, refl, sym, ◌∙◌, arith}
-use Rattle.live_core.specs.own.Slots.{held_numbers, is_held}
+use Rattle.live_core.specs.Empties.{held_numbers}
+use Rattle.live_core.specs.own.Slots.{is_held}
 use Rattle.live_core.proofs.Paired.{pairs_none, pairs_kept, pairs_left, pairs_full}
 use Rattle.live_core.proofs.index.gather_held.Goals as goal
 

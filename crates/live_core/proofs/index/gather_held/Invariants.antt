@@ -1,5 +1,6 @@
 -- The entries that are not stale come to the end.
-use Rattle.live_core.specs.own.Slots.{held_numbers, is_held}
+use Rattle.live_core.specs.Empties.{held_numbers}
+use Rattle.live_core.specs.own.Slots.{is_held}
 use Rattle.live_core.proofs.Paired.{PairsCompact}
 use Rattle.live_core.proofs.index.gather_held.Given as goal
 

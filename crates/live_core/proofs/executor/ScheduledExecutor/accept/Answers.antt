@@ -1,10 +1,10 @@
 -- Room is made, and a task comes into its slot.
-use Rattle.std.proofs.Common.{◌+◌, ◌∙◌, ℕ, vec_capacity, refl, ap, subst, arith}
+use Rattle.std.proofs.Common.{◌+◌, ◌≤◌, sym, ◌∙◌, ℕ, vec_capacity, refl, ap, subst, arith}
 use Rattle.queue_code.specs.declared.call.CodeCall.TheVariants as call
 use Rattle.executor_model.specs.declared.types.Answer.TheVariants as answer
 use Rattle.executor_model.specs.Answers.{bare, kind_of}
-use Rattle.live_core.specs.Lives.{LiveView, Calls, StaysQuiet}
-use Rattle.live_core.proofs.Living.{live_call}
+use Rattle.live_core.specs.Lives.{LiveView, Calls, StaysQuiet, never}
+use Rattle.live_core.proofs.Living.{live_on}
 use Rattle.live_core.proofs.Steps.{may_submit, accepts_there}
 use Rattle.live_core.proofs.Leaving.{leaves_before, stays_noted}
 use Rattle.live_core.proofs.executor.ScheduledExecutor.accept.Goals as goal
@@ -16,11 +16,10 @@ invariant_of-self-2 g c =
     let placed = c.place-placed in
     let new : LiveView = record { table = placed.new.table; count = e.count + 1; accepted = e.accepted + 1; earliest = e.earliest; ended = placed.new.ended.items } in
     let unshut = c.self.invariant.unshut (ap (λ (v : LiveView). v.table.shut) c.self.view_is ∙ c.requires.unshut) in
-    let may = may_submit m c.args.self.now c.args.moment c.args.delay c.args.timing c.self.view_is c.requires.early c.requires.ahead c.requires.limit c.requires.few c.requires.spans.0 c.requires.spans.1 in
-    live_call m new (c.args.moment, call.Submit e.count c.args.timing c.args.delay) (bare (answer.Submit placed.result.task.number (kind_of c.args.timing) placed.result.due)) e.notes.free e.notes.entries e.notes.slot_room (vec_capacity e.ended)
-    placed.new.notes.free placed.new.notes.entries placed.new.notes.slot_room (vec_capacity placed.new.ended) c.self.invariant
-    (accepts_there m c.make_room.new.table placed.new.table placed.new.ended.items c.args.moment c.args.delay placed.result.due placed.result.task.number c.args.timing may c.make_room.ensures.roomier placed.ensures.workers unshut placed.ensures.ended placed.ensures.number placed.ensures.steps)
-    (λ q. ap (λ (n : ℕ). n + 1) unshut) refl placed.ensures.noted (placed.ensures.alive (c.make_room.ensures.alive c.self.invariant.alive))
+    live_on m new e.notes.free e.notes.entries e.notes.slot_room (vec_capacity e.ended) placed.new.notes.free placed.new.notes.entries placed.new.notes.slot_room (vec_capacity placed.new.ended) c.self.invariant
+    (subst (λ (v : LiveView). v.count + 1 ≤ never) (sym c.self.view_is) (omega (arith, c.requires.few))) refl
+    (omega (arith, placed.ensures.moment, ap (λ (v : LiveView). v.table.moment) c.self.view_is, c.requires.ahead))
+    (λ q. ap (λ (n : ℕ). n + 1) unshut) placed.ensures.noted (placed.ensures.alive (c.make_room.ensures.alive c.self.invariant.alive))
 
 pub returns-clause-made : goal.returns-clause-made
 returns-clause-made g c =

@@ -17,9 +17,8 @@ invariant_of-self g c =
     let e = c.self.inside in
     let m : LiveView = record { table = e.table; count = e.count; accepted = e.accepted; earliest = e.earliest; ended = e.ended.items } in
     let s = c.ask in
-    let none : SubmitsNone e.count call.Ask (bare (answer.Ask s.result.queue s.result.running s.result.shutdown s.result.terminated)) = record { orderly = tt; same = refl; none = λ k. refl } in
-    live_other m c.args.self.now s.new.self c.clear.new.self.items c.args.at c.moment_of-moment.result call.Ask (bare (answer.Ask s.result.queue s.result.running s.result.shutdown s.result.terminated)) e.notes.free e.notes.entries e.notes.slot_room (vec_capacity e.ended) e.notes.free e.notes.entries e.notes.slot_room (vec_capacity c.clear.new.self)
-    c.self.view_is c.moment_of-moment.ensures c.if-moment-gt-LONGEST.false none (ap workers_of s.ensures.slots) s.ensures.steps (λ q. sym (ap (λ (t : TableView). t.shut) s.ensures.slots) ∙ q) c.self.invariant
+    live_other m c.args.self.now s.new.self c.clear.new.self.items c.args.at c.moment_of-moment.result e.notes.free e.notes.entries e.notes.slot_room (vec_capacity e.ended) e.notes.free e.notes.entries e.notes.slot_room (vec_capacity c.clear.new.self)
+    c.self.view_is c.moment_of-moment.ensures (ap (λ (t : TableView). t.moment) s.ensures.slots) (λ q. sym (ap (λ (t : TableView). t.shut) s.ensures.slots) ∙ q) c.self.invariant
     (noted_same_room e.table.slots s.new.self.slots e.count e.notes.free e.notes.entries e.notes.slot_room (vec_capacity e.ended) (vec_capacity c.clear.new.self) (ap (λ (t : TableView). t.slots) s.ensures.slots) c.clear.ensures.capacity c.self.invariant.noted)
     (subst (λ (t : TableView). AreAlive t.slots) (sym s.ensures.slots) c.self.invariant.alive)
 
@@ -30,7 +29,7 @@ returns-clause-made g c =
     let s = c.ask in
     let none : SubmitsNone e.count call.Ask (bare (answer.Ask s.result.queue s.result.running s.result.shutdown s.result.terminated)) = record { orderly = tt; same = refl; none = λ k. refl } in
     let makes = calls_other m c.args.self.now s.new.self c.clear.new.self.items c.args.at c.moment_of-moment.result call.Ask (bare (answer.Ask s.result.queue s.result.running s.result.shutdown s.result.terminated))
-    c.self.view_is c.moment_of-moment.ensures c.if-moment-gt-LONGEST.false c.self.invariant.stands.few none (ap workers_of s.ensures.slots) s.ensures.steps in
+    c.self.view_is c.moment_of-moment.ensures c.if-moment-gt-LONGEST.false c.self.invariant.few none (ap workers_of s.ensures.slots) s.ensures.steps in
     record {
       queue = s.ensures.queue ∙ ap (λ (v : LiveView). queue_in v.table.slots) c.self.view_is;
       running = s.ensures.running ∙ ap (λ (v : LiveView). how_many is_some v.table.work) c.self.view_is;

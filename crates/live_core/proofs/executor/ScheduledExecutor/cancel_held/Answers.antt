@@ -1,13 +1,15 @@
 -- The table takes the step, and the slot is emptied where its task is over.
-use Rattle.std.proofs.Common.{◌∙◌, ◌<◌, Some, refl, sym, subst, vec_capacity}
+use Rattle.std.proofs.Common.{arith, ap, ◌∙◌, ◌<◌, Some, refl, sym, subst, vec_capacity}
 use Rattle.executor_model.specs.declared.types.Happening.TheVariants as happening
 use Rattle.executor_model.specs.declared.types.Answer.TheVariants as answer
 use Rattle.executor_model.specs.Answers.{bare}
+use Rattle.task_table.specs.Tables.{TableView}
 use Rattle.live_core.specs.Lives.{LiveView, Happens, StaysQuiet}
 use Rattle.live_core.specs.own.Places.{IsSlotOf}
 use Rattle.live_core.proofs.Cancelled.{outside_held, unshut_held}
 use Rattle.live_core.proofs.Alive.{alive_cancelled}
-use Rattle.live_core.proofs.Living.{live_event}
+use Rattle.task_table.proofs.Worked.{cancel_moment}
+use Rattle.live_core.proofs.Living.{live_on}
 use Rattle.live_core.proofs.Seated.{cancelled_numbers, cancelled_outside, cancelled_noted, cancelled_there}
 use Rattle.live_core.proofs.Leaving.{leaves_same, leaves_more, stays_left}
 use Rattle.live_core.proofs.executor.ScheduledExecutor.cancel_held.Goals as goal
@@ -33,12 +35,11 @@ invariant_of-self g c =
     let is = cancelled_outside e.table mid c.args.slot own.0 (c.cancel-effect.ensures.slots own.0 own.1) in
     let table = c.release_spent.new.table in
     let new : LiveView = record m { table = table; ended = c.clear.new.self.items } in
-    let low = subst (λ (v : LiveView). k < v.count) (sym c.self.view_is) c.requires.given in
     let notes = c.release_spent.new.notes in
     let room = vec_capacity c.clear.new.self in
-    live_event m new (happening.Cancel k) (bare (answer.Outside k c.cancel-effect.result)) e.notes.free e.notes.entries e.notes.slot_room (vec_capacity e.ended) notes.free notes.entries notes.slot_room room c.self.invariant
-    (outside_held m mid table c.clear.new.self.items c.args.slot k own.0 c.cancel-effect.result is own.2 low c.release_spent.ensures.stands (c.cancel-effect.ensures.steps own.0 own.1))
-    (unshut_held m mid table c.args.slot own.0 is c.release_spent.ensures.stands c.self.invariant.unshut) c.self.invariant.earliest
+    live_on m new e.notes.free e.notes.entries e.notes.slot_room (vec_capacity e.ended) notes.free notes.entries notes.slot_room room c.self.invariant c.self.invariant.few refl
+    (omega (arith, c.release_spent.ensures.stands.moment, ap (λ (v : TableView). v.moment) (c.cancel-effect.ensures.slots own.0 own.1), cancel_moment e.table c.args.slot own.0))
+    (unshut_held m mid table c.args.slot own.0 is c.release_spent.ensures.stands c.self.invariant.unshut)
     (c.release_spent.ensures.noted e.count room (cancelled_noted e.table mid c.args.slot own.0 e.count e.notes.free e.notes.entries e.notes.slot_room (vec_capacity e.ended) room is own.1 c.clear.ensures.capacity c.self.invariant.noted))
     (c.release_spent.ensures.all (alive_cancelled e.table mid c.args.slot own.0 is c.self.invariant.alive))
 

@@ -1,13 +1,14 @@
 -- The table takes the step, and the slot is emptied where its task is over.
-use Rattle.std.proofs.Common.{◌∙◌, Some, refl, sym, subst, vec_capacity}
+use Rattle.std.proofs.Common.{arith, ap, ◌∙◌, Some, refl, sym, subst, vec_capacity}
 use Rattle.queue_code.specs.declared.call.CodeCall.TheVariants as call
 use Rattle.executor_model.specs.declared.types.Answer.TheVariants as answer
 use Rattle.executor_model.specs.Answers.{bare}
+use Rattle.task_table.specs.Tables.{TableView}
 use Rattle.live_core.specs.Lives.{LiveView, Calls, StaysQuiet}
 use Rattle.live_core.specs.own.Places.{IsSlotOf}
 use Rattle.live_core.proofs.Cancelled.{may_cancel, by_call_held, unshut_held}
 use Rattle.live_core.proofs.Alive.{alive_cancelled}
-use Rattle.live_core.proofs.Living.{live_call}
+use Rattle.live_core.proofs.Living.{live_on}
 use Rattle.live_core.proofs.Seated.{cancelled_numbers, cancelled_by_call, cancelled_noted, cancelled_there}
 use Rattle.live_core.proofs.Leaving.{leaves_same, leaves_more, stays_left}
 use Rattle.live_core.proofs.executor.ScheduledExecutor.cancel_held_by_call.Goals as goal
@@ -33,12 +34,11 @@ invariant_of-self g c =
     let is = cancelled_by_call e.table mid c.args.slot c.args.moment own.0 (c.cancel_by_call-effect.ensures.slots own.0 own.1) in
     let table = c.release_spent.new.table in
     let new : LiveView = record m { table = table; ended = c.clear.new.self.items } in
-    let may = may_cancel m c.args.self.now c.args.moment k c.self.view_is c.self.invariant.stands.few c.requires.given c.requires.early c.requires.ahead c.requires.limit in
     let notes = c.release_spent.new.notes in
     let room = vec_capacity c.clear.new.self in
-    live_call m new (c.args.moment, call.Cancel k) (bare (answer.Cancel k c.cancel_by_call-effect.result)) e.notes.free e.notes.entries e.notes.slot_room (vec_capacity e.ended) notes.free notes.entries notes.slot_room room c.self.invariant
-    (by_call_held m mid table c.clear.new.self.items c.args.moment c.args.slot k own.0 c.cancel_by_call-effect.result is own.2 may c.release_spent.ensures.stands (c.cancel_by_call-effect.ensures.steps own.0 own.1))
-    (unshut_held m mid table c.args.slot own.0 is c.release_spent.ensures.stands c.self.invariant.unshut) refl
+    live_on m new e.notes.free e.notes.entries e.notes.slot_room (vec_capacity e.ended) notes.free notes.entries notes.slot_room room c.self.invariant c.self.invariant.few refl
+    (omega (arith, c.release_spent.ensures.stands.moment, ap (λ (v : TableView). v.moment) (c.cancel_by_call-effect.ensures.slots own.0 own.1), ap (λ (v : LiveView). v.table.moment) c.self.view_is, c.requires.ahead))
+    (unshut_held m mid table c.args.slot own.0 is c.release_spent.ensures.stands c.self.invariant.unshut)
     (c.release_spent.ensures.noted e.count room (cancelled_noted e.table mid c.args.slot own.0 e.count e.notes.free e.notes.entries e.notes.slot_room (vec_capacity e.ended) room is own.1 c.clear.ensures.capacity c.self.invariant.noted))
     (c.release_spent.ensures.all (alive_cancelled e.table mid c.args.slot own.0 is c.self.invariant.alive))
 
@@ -52,7 +52,7 @@ returns-clause-makes g c =
     let is = cancelled_by_call e.table mid c.args.slot c.args.moment own.0 (c.cancel_by_call-effect.ensures.slots own.0 own.1) in
     let table = c.release_spent.new.table in
     let new : LiveView = record m { table = table; ended = c.clear.new.self.items } in
-    let may = may_cancel m c.args.self.now c.args.moment k c.self.view_is c.self.invariant.stands.few c.requires.given c.requires.early c.requires.ahead c.requires.limit in
+    let may = may_cancel m c.args.self.now c.args.moment k c.self.view_is c.self.invariant.few c.requires.given c.requires.early c.requires.ahead c.requires.limit in
     subst (λ (v : LiveView). Calls v new (c.args.moment, call.Cancel k) (bare (answer.Cancel k c.cancel_by_call-effect.result))) c.self.view_is
     (by_call_held m mid table c.clear.new.self.items c.args.moment c.args.slot k own.0 c.cancel_by_call-effect.result is own.2 may c.release_spent.ensures.stands (c.cancel_by_call-effect.ensures.steps own.0 own.1))
 

@@ -15,8 +15,7 @@ invariant_of-self g c =
     let e = c.self.inside in
     let m : LiveView = record { table = e.table; count = e.count; accepted = e.accepted; earliest = e.earliest; ended = e.ended.items } in
     let taken : is_accepted e.table.moment c.args.moment ≡ true = c.clock.ensures.accepted.0 (ap is_ok c.in-Ok.is) in
-    live_clock m c.clock.new.self c.clear.new.self.items c.args.moment e.notes.free e.notes.entries e.notes.slot_room (vec_capacity e.ended) (vec_capacity c.clear.new.self)
-    c.self.invariant c.clear.ensures.items taken c.in-Ok.ensures.moved c.in-Ok.ensures.steps c.clear.ensures.capacity
+    live_clock m c.clock.new.self c.clear.new.self.items c.args.moment e.notes.free e.notes.entries e.notes.slot_room (vec_capacity e.ended) (vec_capacity c.clear.new.self) c.self.invariant taken c.in-Ok.ensures.moved c.clear.ensures.capacity
 
 pub returns-in-Ok-clause-happens : goal.returns-in-Ok-clause-happens
 returns-in-Ok-clause-happens g c =
@@ -25,7 +24,7 @@ returns-in-Ok-clause-happens g c =
     let new : LiveView = record { table = c.clock.new.self; count = e.count; accepted = e.accepted; earliest = c.args.moment + 1; ended = c.clear.new.self.items } in
     let taken : is_accepted e.table.moment c.args.moment ≡ true = c.clock.ensures.accepted.0 (ap is_ok c.in-Ok.is) in
     subst (λ (v : LiveView). Happens v new (h.Clock c.args.moment) (bare a.Clock)) c.self.view_is
-    (clocks_there m c.clock.new.self c.clear.new.self.items c.args.moment c.clear.ensures.items c.self.invariant.stands.behind (taken_within e.table.moment c.args.moment taken).0 c.in-Ok.ensures.moved c.in-Ok.ensures.steps)
+    (clocks_there m c.clock.new.self c.clear.new.self.items c.args.moment c.clear.ensures.items c.self.invariant.behind (taken_within e.table.moment c.args.moment taken).0 c.in-Ok.ensures.moved c.in-Ok.ensures.steps)
 
 pub returns-in-Err-clause-failed : goal.returns-in-Err-clause-failed
 returns-in-Err-clause-failed g c =

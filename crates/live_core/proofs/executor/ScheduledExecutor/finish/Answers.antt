@@ -6,7 +6,7 @@ use Rattle.task_table.specs.Runs.{IsFinishError}
 use Rattle.live_core.specs.Lives.{LiveView, Happens, Stays}
 use Rattle.live_core.specs.Events.{Fails, finish_reply}
 use Rattle.live_core.proofs.Workers.{ended_given}
-use Rattle.live_core.proofs.Occurring.{finish_happens, finish_fails, live_finish}
+use Rattle.live_core.proofs.Occurring.{finish_happens, finish_fails, live_steps}
 use Rattle.live_core.proofs.Leaving.{stays_left, always_on_ok}
 use Rattle.live_core.proofs.executor.ScheduledExecutor.finish.Goals as goal
 
@@ -15,12 +15,8 @@ invariant_of-self g c =
     let e = c.self.inside in
     let m : LiveView = record { table = e.table; count = e.count; accepted = e.accepted; earliest = e.earliest; ended = e.ended.items } in
     let r = c.end_run in
-    let none = c.clear.new.self.items in
-    live_finish m r.new.table none c.args.worker c.args.ending r.result e.notes.free e.notes.entries e.notes.slot_room (vec_capacity e.ended)
-    r.new.notes.free r.new.notes.entries r.new.notes.slot_room (vec_capacity c.clear.new.self) c.self.invariant
-    (finish_happens m r.new.table none c.args.worker c.args.ending r.result c.clear.ensures.items r.ensures.workers r.ensures.steps)
-    (finish_fails m r.new.table none c.args.worker c.args.ending r.result c.clear.ensures.items r.ensures.unchanged r.ensures.failed)
-    r.ensures.shut c.clear.ensures.capacity (r.ensures.noted e.count (vec_capacity e.ended) c.self.invariant.noted) (r.ensures.alive c.self.invariant.alive)
+    live_steps m r.new.table c.clear.new.self.items e.notes.free e.notes.entries e.notes.slot_room (vec_capacity e.ended) r.new.notes.free r.new.notes.entries r.new.notes.slot_room (vec_capacity c.clear.new.self) c.self.invariant
+    r.ensures.moment r.ensures.shut c.clear.ensures.capacity (r.ensures.noted e.count (vec_capacity e.ended) c.self.invariant.noted) (r.ensures.alive c.self.invariant.alive)
 
 pub returns-clause-happens : goal.returns-clause-happens
 returns-clause-happens g c =

@@ -1,15 +1,14 @@
 -- The table refuses it, and stays as it is.
-use Rattle.std.proofs.Common.{◌≡◌, ◌+◌, ◌∙◌, true, vec_capacity, refl, sym, ap, subst, arith}
+use Rattle.std.proofs.Common.{◌≡◌, ◌+◌, ◌≤◌, ◌∙◌, true, vec_capacity, refl, sym, ap, subst, arith}
 use Rattle.std.proofs.lemmas.Bool.{false≢true}
-use Rattle.sched_time.specs.declared.timing.Timing.TheVariants as t
 use Rattle.queue_code.specs.declared.call.CodeCall.TheVariants as call
 use Rattle.executor_model.specs.declared.types.Answer.TheVariants as answer
 use Rattle.executor_model.specs.declared.types.Refusal.TheVariants as refusal
 use Rattle.executor_model.specs.Answers.{bare}
 use Rattle.task_table.specs.Seats.{IsNew}
 use Rattle.task_table.specs.Tables.{TableView, workers_of}
-use Rattle.live_core.specs.Lives.{LiveView, Calls, StaysQuiet, AreAlive}
-use Rattle.live_core.proofs.Living.{live_call}
+use Rattle.live_core.specs.Lives.{LiveView, Calls, StaysQuiet, never, AreAlive}
+use Rattle.live_core.proofs.Living.{live_on}
 use Rattle.live_core.proofs.Noted.{noted_number, noted_later}
 use Rattle.live_core.proofs.Steps.{may_submit, rejects_there}
 use Rattle.live_core.proofs.Leaving.{leaves_still, stays_left}
@@ -21,12 +20,11 @@ invariant_of-self g c =
     let m : LiveView = record { table = e.table; count = e.count; accepted = e.accepted; earliest = e.earliest; ended = e.ended.items } in
     let table = c.refuse.new.self in
     let new : LiveView = record { table = table; count = e.count + 1; accepted = e.accepted; earliest = e.earliest; ended = c.clear.new.self.items } in
-    let may = may_submit m c.args.self.now c.args.moment 0 t.Once c.self.view_is c.requires.early c.requires.ahead c.requires.limit c.requires.few (omega arith) tt in
     let shut : table.shut ≡ true = ap (λ (x : TableView). x.shut) c.refuse.ensures.slots ∙ (ap (λ (v : LiveView). v.table.shut) c.self.view_is ∙ c.requires.shut) in
-    live_call m new (c.args.moment, call.Submit e.count t.Once 0) (bare (answer.Refuse e.count refusal.Rejected)) e.notes.free e.notes.entries e.notes.slot_room (vec_capacity e.ended)
-    e.notes.free e.notes.entries e.notes.slot_room (vec_capacity c.clear.new.self) c.self.invariant
-    (rejects_there m table c.clear.new.self.items c.args.moment 0 t.Once may c.refuse.ensures.slots c.clear.ensures.items (c.refuse.ensures.steps e.count t.Once 0))
-    (λ q. absurd (false≢true (sym q ∙ shut))) refl
+    live_on m new e.notes.free e.notes.entries e.notes.slot_room (vec_capacity e.ended) e.notes.free e.notes.entries e.notes.slot_room (vec_capacity c.clear.new.self) c.self.invariant
+    (subst (λ (v : LiveView). v.count + 1 ≤ never) (sym c.self.view_is) (omega (arith, c.requires.few))) refl
+    (omega (arith, ap (λ (x : TableView). x.moment) c.refuse.ensures.slots, ap (λ (v : LiveView). v.table.moment) c.self.view_is, c.requires.ahead))
+    (λ q. absurd (false≢true (sym q ∙ shut)))
     (noted_later e.table.slots table.slots e.count e.notes.free e.notes.entries e.notes.slot_room (vec_capacity e.ended) (vec_capacity c.clear.new.self) (ap (λ (x : TableView). x.slots) c.refuse.ensures.slots) c.clear.ensures.capacity c.self.invariant.noted)
     (subst (λ (x : TableView). AreAlive x.slots) (sym c.refuse.ensures.slots) c.self.invariant.alive)
 

@@ -13,9 +13,8 @@ invariant_of-self g c =
     let e = c.self.inside in
     let m : LiveView = record { table = e.table; count = e.count; accepted = e.accepted; earliest = e.earliest; ended = e.ended.items } in
     let s = c.set_policy in
-    let none : SubmitsNone e.count (call.SetPolicy c.args.which c.args.value) (ending (answer.Policy c.args.which c.args.value) s.new.ended.items) = record { orderly = tt; same = refl; none = λ k. refl } in
-    live_other m c.args.self.now s.new.table s.new.ended.items c.args.at c.moment_of-moment.result (call.SetPolicy c.args.which c.args.value) (ending (answer.Policy c.args.which c.args.value) s.new.ended.items) e.notes.free e.notes.entries e.notes.slot_room (vec_capacity e.ended) s.new.notes.free s.new.notes.entries s.new.notes.slot_room (vec_capacity s.new.ended)
-    c.self.view_is c.moment_of-moment.ensures c.if-moment-gt-LONGEST.false none s.ensures.workers s.ensures.steps (λ q. sym s.ensures.shut ∙ q) c.self.invariant (s.ensures.noted e.count c.self.invariant.noted) (s.ensures.alive c.self.invariant.alive)
+    live_other m c.args.self.now s.new.table s.new.ended.items c.args.at c.moment_of-moment.result e.notes.free e.notes.entries e.notes.slot_room (vec_capacity e.ended) s.new.notes.free s.new.notes.entries s.new.notes.slot_room (vec_capacity s.new.ended)
+    c.self.view_is c.moment_of-moment.ensures s.ensures.moment (λ q. sym s.ensures.shut ∙ q) c.self.invariant (s.ensures.noted e.count c.self.invariant.noted) (s.ensures.alive c.self.invariant.alive)
 
 pub returns-clause-made : goal.returns-clause-made
 returns-clause-made g c =
@@ -24,7 +23,7 @@ returns-clause-made g c =
     let s = c.set_policy in
     let none : SubmitsNone e.count (call.SetPolicy c.args.which c.args.value) (ending (answer.Policy c.args.which c.args.value) s.new.ended.items) = record { orderly = tt; same = refl; none = λ k. refl } in
     calls_other m c.args.self.now s.new.table s.new.ended.items c.args.at c.moment_of-moment.result (call.SetPolicy c.args.which c.args.value) (ending (answer.Policy c.args.which c.args.value) s.new.ended.items)
-    c.self.view_is c.moment_of-moment.ensures c.if-moment-gt-LONGEST.false c.self.invariant.stands.few none s.ensures.workers s.ensures.steps
+    c.self.view_is c.moment_of-moment.ensures c.if-moment-gt-LONGEST.false c.self.invariant.few none s.ensures.workers s.ensures.steps
 
 pub returns-clause-stays : goal.returns-clause-stays
 returns-clause-stays g c =

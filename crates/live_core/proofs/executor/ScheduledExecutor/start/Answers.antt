@@ -25,10 +25,8 @@ invariant_of-self-2 g c =
     let e = c.self.inside in
     let m : LiveView = record { table = e.table; count = e.count; accepted = e.accepted; earliest = e.earliest; ended = e.ended.items } in
     let b = c.begin_run in
-    live_steps m b.new.table c.clear-2.new.self.items (h.Start c.args.worker) (start_reply c.args.worker b.result) e.notes.free e.notes.entries e.notes.slot_room (vec_capacity e.ended)
-    b.new.notes.free b.new.notes.entries b.new.notes.slot_room (vec_capacity c.clear-2.new.self) c.self.invariant
-    (happens_there m b.new.table c.clear-2.new.self.items (h.Start c.args.worker) (start_reply c.args.worker b.result) refl refl tt c.clear-2.ensures.items b.ensures.workers b.ensures.steps)
-    b.ensures.shut c.clear-2.ensures.capacity (b.ensures.noted e.count (vec_capacity e.ended) c.self.invariant.noted) (b.ensures.alive c.self.invariant.alive)
+    live_steps m b.new.table c.clear-2.new.self.items e.notes.free e.notes.entries e.notes.slot_room (vec_capacity e.ended) b.new.notes.free b.new.notes.entries b.new.notes.slot_room (vec_capacity c.clear-2.new.self) c.self.invariant
+    b.ensures.moment b.ensures.shut c.clear-2.ensures.capacity (b.ensures.noted e.count (vec_capacity e.ended) c.self.invariant.noted) (b.ensures.alive c.self.invariant.alive)
 
 pub returns-clause-happens : goal.returns-clause-happens
 returns-clause-happens g c =

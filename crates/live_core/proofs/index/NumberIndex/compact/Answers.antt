@@ -6,7 +6,8 @@ use Rattle.std.specs.Prelude.{min, vec_capacity}
 use Rattle.std.specs.List.{filter}
 use Rattle.task_table.specs.declared.seat.Seat.{Seat}
 use Rattle.task_table.specs.declared.seat.TaskRef.{TaskRef}
-use Rattle.live_core.specs.own.Slots.{held_numbers, is_held, entries_of, Ascends, IndexView}
+use Rattle.live_core.specs.Empties.{held_numbers}
+use Rattle.live_core.specs.own.Slots.{is_held, entries_of, Ascends, IndexView}
 use Rattle.live_core.proofs.Few.{few_held}
 use Rattle.live_core.proofs.Held.{held_count}
 use Rattle.live_core.proofs.Paired.{paired_take, ascends_from_rises, pairs_ascend}

@@ -1,7 +1,8 @@
 -- The index of the notes is one of the same slots.
 use Rattle.std.proofs.Common.{List, sym, subst, ap}
 use Rattle.task_table.specs.declared.seat.TaskRef.{TaskRef}
-use Rattle.live_core.specs.own.Slots.{held_numbers, IsIndex, IndexView, NotesView}
+use Rattle.live_core.specs.Empties.{held_numbers}
+use Rattle.live_core.specs.own.Slots.{IsIndex, IndexView, NotesView}
 use Rattle.live_core.proofs.Filtered.{indexed_filtered}
 use Rattle.live_core.proofs.notes.Notes.tidy_index.Goals as goal
 
