@@ -1,5 +1,5 @@
 #!/usr/bin/env python3
-"""Tries the service of jobs, and runs of a plan.
+"""Tries the service of jobs.
 
     job_service/tests/test.py [--short] [--only WORD] [PROGRAM]
 
