@@ -114,8 +114,11 @@ fn what_is_written_says_all(rt: HostRuntime) -> Result<(), Fail> {
     Ok(())
 }
 
-/// What is wrong with what is written, by its number, and `false` where there is no such fault.
+/// What is wrong with what is written of three tasks and an empty slot, by its number, and `false` where there is no such fault.
 fn spoil(snapshot: &mut Snapshot, fault: u32) -> bool {
+    if snapshot.tasks.len() < 3 || snapshot.empty.is_empty() {
+        return false;
+    }
     let frame = &mut snapshot.frame;
     let tasks = &mut snapshot.tasks;
     let empty = &mut snapshot.empty;
@@ -155,26 +158,26 @@ fn spoil(snapshot: &mut Snapshot, fault: u32) -> bool {
     true
 }
 
+/// How many faults there are.
+const FAULTS: u32 = 30;
+
 #[test]
 fn what_no_executor_wrote_is_refused(rt: HostRuntime) -> Result<(), Fail> {
     let executor = three_tasks(rt.alloc())?;
-    let mut faults = 0u32;
-    loop {
+    for fault in 0..FAULTS {
         let mut snapshot = snapshot_of(rt.alloc(), &executor)?;
-        if !spoil(&mut snapshot, faults) {
-            break;
-        }
+        assert!(rt; spoil(&mut snapshot, fault), "{fault}");
         let error = restored(rt.alloc(), &snapshot).err();
         // A run without a worker is one that no step ends, but of it as much may be written.
-        let wanted = if faults == 15 {
+        let wanted = if fault == 15 {
             None
         } else {
             Some(RestoreError::Unsound)
         };
-        assert!(rt; error == wanted, "{faults}");
-        faults += 1;
+        assert!(rt; error == wanted, "{fault}");
     }
-    assert_eq!(rt; faults, 30);
+    let mut snapshot = snapshot_of(rt.alloc(), &executor)?;
+    assert!(rt; !spoil(&mut snapshot, FAULTS));
     Ok(())
 }
 
@@ -184,7 +187,9 @@ fn an_empty_slot_is_written_once(rt: HostRuntime) -> Result<(), Fail> {
     executor.reserve(3)?;
     let mut snapshot = snapshot_of(rt.alloc(), &executor)?;
     assert!(rt; restored(rt.alloc(), &snapshot).is_ok());
-    snapshot.empty[2] = snapshot.empty[0];
+    let first = snapshot.empty.first().copied().ok_or("no empty slot")?;
+    let third = snapshot.empty.get_mut(2).ok_or("no third one")?;
+    *third = first;
     assert!(rt; restored(rt.alloc(), &snapshot).err() == Some(RestoreError::Unsound));
     Ok(())
 }
@@ -193,12 +198,10 @@ fn an_empty_slot_is_written_once(rt: HostRuntime) -> Result<(), Fail> {
 fn a_name_means_the_same_task_after(rt: HostRuntime) -> Result<(), Fail> {
     let executor = three_tasks(rt.alloc())?;
     let snapshot = snapshot_of(rt.alloc(), &executor)?;
+    let second = snapshot.tasks.get(1).ok_or("no second task")?.slot;
     let mut other = restored(rt.alloc(), &snapshot)?;
     let ended = other.finish(1, Ending::Value(7))?;
-    assert_eq!(rt;
-        (ended.task.number, ended.task.slot),
-        (1, snapshot.tasks[1].slot)
-    );
+    assert_eq!(rt; (ended.task.number, ended.task.slot), (1, second));
     assert!(rt; other.holds(ended.task));
     assert_eq!(rt; other.next_due(), Some(7));
     Ok(())
