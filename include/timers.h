@@ -21,7 +21,7 @@
  *
  * Moments are nanoseconds, from 0 to 2^62, as are delays and periods; a due moment may be up to 2^63, and what is due above 2^62 never
  * runs. Hand in a clock that does not go back, such as CLOCK_MONOTONIC. A poll or an end of a run is made at the moment handed in, or
- * now where that would go back: now is the greatest moment so far. A cancel is made now. Each other call that takes a moment is made at
+ * now where that would go back: now is the greatest moment so far. A cancel and a purge are made now. Each other call that takes a moment is made at
  * the greatest of the one handed in, now, and 1 ns after the last poll or end of a run that was not refused; a delay counts from there.
  *
  * Tasks. Each submission that is accepted, or rejected with TIMERS_SHUT, is given a number, from 0 on, and an accepted one a slot that
@@ -36,7 +36,7 @@
  * writes what it has to tell, and zeros where it has nothing to tell, but that timers_text leaves its buffer, and a call on many the
  * places behind those that it counted. Zeros are the ref of the first task too: look at the status before the ref.
  *
- * Lines. A submission, a cancel, a poll, an end of a run, a question, a policy and a shutdown that is taken has the lines that a trace
+ * Lines. A submission, a cancel, a purge, a poll, an end of a run, a question, a policy and a shutdown that is taken has the lines that a trace
  * has of it (docs/RULES.md, "Lines" and "Answers"): a poll and an end of a run that of the clock and then that of the answer, a poll
  * that answers TIMERS_FULL that of the clock alone, and a call that ends tasks one more for each. All other functions of this file leave
  * the lines of the last call, and the tasks that it ended.
@@ -85,7 +85,7 @@ enum {
     TIMERS_NO_MEMORY = 1,   /* malloc refused, or there are 2^30 slots or more, and each is taken */
     TIMERS_NO_TIMERS = 2,   /* the slot is empty */
     TIMERS_HAS_TIMERS = 3,  /* the slot has timers already */
-    TIMERS_WORKERS = 4,     /* the number of workers is not 1 to 64 */
+    TIMERS_WORKERS = 4,     /* the number of workers is not 1 to 255 */
     TIMERS_SHUT = 5,        /* a submission is rejected, since the timers are shut: it has a number, and no task */
     TIMERS_ILLEGAL = 6,     /* a period, or a fixed delay, is 0; or there is no such policy; or a code is 2^32 or more */
     TIMERS_TOO_LONG = 7,    /* a delay or a period is above 2^62 nanoseconds */
@@ -94,7 +94,7 @@ enum {
     TIMERS_NO_WORKER = 10,  /* there is no such worker */
     TIMERS_BUSY = 11,       /* the worker has a run under way */
     TIMERS_NOT_RUNNING = 12,/* the worker has no run under way */
-    TIMERS_IDLE = 13,       /* nothing is due; or no task waits; or no more tasks were ended */
+    TIMERS_IDLE = 13,       /* nothing is due; or no task waits; or the queue is empty; or no more tasks were ended */
     TIMERS_FULL = 14,       /* no number is left: 2^64 - 1 submissions, or as many runs of the task that is due */
     TIMERS_NO_TASK = 15,    /* no submission was given this number yet */
     TIMERS_NUMBER = 16      /* a line of the last call would name a task by a number of 2^32 or more, which no trace does */
@@ -227,12 +227,14 @@ timers_status timers_ref_execute(timers_slot *slot, uint64_t now, uint64_t data,
 timers_status timers_ref_rate(timers_slot *slot, uint64_t now, uint64_t first, uint64_t period, uint64_t data, timers_ref *task);
 timers_status timers_ref_fixed(timers_slot *slot, uint64_t now, uint64_t first, uint64_t delay, uint64_t data, timers_ref *task);
 timers_status timers_ref_cancel(timers_slot *slot, const timers_ref *task, uint32_t *effect);
+timers_status timers_ref_purge(timers_slot *slot);
 timers_status timers_ref_poll(timers_slot *slot, uint64_t now, uint32_t worker, timers_run *run);
 timers_status timers_ref_poll_many(timers_slot *slot, uint64_t now, timers_run *runs, size_t n, size_t *begun);
 timers_status timers_ref_finish(timers_slot *slot, uint64_t now, uint32_t worker, uint64_t value, timers_end *end);
 timers_status timers_ref_fail(timers_slot *slot, uint64_t now, uint32_t worker, uint32_t code, timers_end *end);
 timers_status timers_ref_finish_many(timers_slot *slot, uint64_t now, const timers_ending *endings, size_t endings_length, timers_end *ends, size_t ends_length, size_t *ended);
 timers_status timers_ref_next_due(timers_slot *slot, uint64_t *due);
+timers_status timers_ref_head_due(timers_slot *slot, uint64_t *due);
 timers_status timers_ref_task_of(timers_slot *slot, const timers_ref *task, timers_task *state);
 timers_status timers_ref_state_of(timers_slot *slot, timers_state *state);
 timers_status timers_ref_ask(timers_slot *slot, uint64_t now, timers_counts *counts);
@@ -242,7 +244,7 @@ timers_status timers_ref_shutdown_now(timers_slot *slot, uint64_t now);
 timers_status timers_ref_ended(timers_slot *slot, size_t place, timers_gone *gone);
 timers_status timers_ref_text(timers_slot *slot, size_t from, uint8_t *out, size_t room, timers_copied *copied);
 
-/* Makes timers in an empty slot, before anything happened. `workers` is the number of workers, 1 to 64: calls name them from 0.
+/* Makes timers in an empty slot, before anything happened. `workers` is the number of workers, 1 to 255: calls name them from 0.
  * TIMERS_HAS_TIMERS: the slot is full. Then TIMERS_WORKERS, then TIMERS_NO_MEMORY. The slot is as it was on each of these. */
 static inline timers_status timers_new(timers_slot *slot, uint32_t workers) {
     return slot == NULL ? (timers_status)TIMERS_NULL : timers_ref_new(slot, workers);
@@ -285,11 +287,17 @@ static inline timers_status timers_fixed(timers_slot *slot, uint64_t now, uint64
     return slot == NULL || task == NULL ? (timers_status)TIMERS_NULL : timers_ref_fixed(slot, now, first, delay, data, task);
 }
 
-/* Cancels a task, and writes what that did (TIMERS_CANCEL_..). A task that waits is kept in the queue until a poll meets it, or a
- * shutdown or a policy sweeps it, unless the remove policy is set. A run that is under way goes on, and is finished as any other; no run comes after it. TIMERS_NO_TIMERS.
+/* Cancels a task, and writes what that did (TIMERS_CANCEL_..). A task that waits is kept in the queue until a poll meets it, a
+ * shutdown or a policy sweeps it, or timers_purge takes it out, unless the remove policy is set. A run that is under way goes on, and is finished as any other; no run comes after it. TIMERS_NO_TIMERS.
  * TIMERS_NO_TASK: no submission was given the number yet. */
 static inline timers_status timers_cancel(timers_slot *slot, timers_ref task, uint32_t *effect) {
     return slot == NULL || effect == NULL ? (timers_status)TIMERS_NULL : timers_ref_cancel(slot, &task, effect);
+}
+
+/* Takes each task out of the queue that was cancelled while it waited, and is kept: its slot is free then. No other task changes, and
+ * nothing comes back; whoever cancelled has the data. It is made now, also where the timers are shut. TIMERS_NO_TIMERS. */
+static inline timers_status timers_purge(timers_slot *slot) {
+    return slot == NULL ? (timers_status)TIMERS_NULL : timers_ref_purge(slot);
 }
 
 /* A worker that has no run under way asks for one, and begins one of the first task that is due, which is written: that with the
@@ -336,6 +344,13 @@ static inline timers_status timers_finish_many(timers_slot *slot, uint64_t now, 
  * waits. */
 static inline timers_status timers_next_due(timers_slot *slot, uint64_t *due) {
     return slot == NULL || due == NULL ? (timers_status)TIMERS_NULL : timers_ref_next_due(slot, due);
+}
+
+/* Writes the moment at which the head of the queue is due, which waits or is kept: before it no poll takes a task out of the queue. A
+ * program for which cancelled tasks are to leave at their own moments waits for this one. TIMERS_NO_TIMERS. TIMERS_IDLE: the queue is
+ * empty. */
+static inline timers_status timers_head_due(timers_slot *slot, uint64_t *due) {
+    return slot == NULL || due == NULL ? (timers_status)TIMERS_NULL : timers_ref_head_due(slot, due);
 }
 
 /* Writes how far a task is. The task is the one of the number, whatever the slot. TIMERS_NO_TIMERS. TIMERS_NO_TASK: no submission was
@@ -395,7 +410,7 @@ static inline timers_status timers_text(timers_slot *slot, size_t from, uint8_t 
 /* What a status means, in words. */
 static inline const char *timers_status_text(timers_status status) {
     static const char *const texts[] = {"done", "out of memory", "the slot is empty", "the slot has timers already",
-        "the number of workers is not 1 to 64", "the timers are shut", "a period is 0, a code too large, or there is no such policy",
+        "the number of workers is not 1 to 255", "the timers are shut", "a period is 0, a code too large, or there is no such policy",
         "a span is above 2^62 nanoseconds", "the moment is above 2^62 nanoseconds", "a pointer is NULL", "there is no such worker",
         "the worker has a run under way", "the worker has no run under way", "nothing is due", "no number is left",
         "no such task", "a line can not name the task"};

@@ -19,6 +19,7 @@ abbrev pub answer_of : Said → Answer
 answer_of (said.Submit kind task due) = a.Submit task kind due
 answer_of (said.Reject task) = a.Refuse task refusal.Rejected
 answer_of (said.Outside effect task) = a.Outside task effect
+answer_of said.Purge = a.Purge
 answer_of (said.Policy which value) = a.Policy which value
 answer_of (said.Shutdown first) = shutdown_answer first
 answer_of said.ShutdownNow = a.ShutdownNow

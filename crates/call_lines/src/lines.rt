@@ -127,6 +127,7 @@ fn answer_in(said: Said) -> Option<Answer>
             task: narrow(task)?,
             effect,
         },
+        Said::Purge => Answer::Purge,
         Said::Policy { which, value } => Answer::Policy { which, value },
         Said::Shutdown { first: true } => Answer::Shutdown,
         Said::Shutdown { first: false } => Answer::ShutdownAgain,

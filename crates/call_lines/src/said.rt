@@ -29,6 +29,8 @@ pub enum Said {
         effect: CancelEffect,
         task: u64,
     },
+    /// The tasks that were cancelled while they waited have left the queue.
+    Purge,
     /// A policy was set.
     Policy {
         which: Which,

@@ -7,6 +7,7 @@ pub mod NextCalls
 pub mod Submits
 pub mod Clocking
 pub mod Starting
+pub mod Purging
 pub mod Cancelling
 pub mod Opens
 pub mod Rooms

@@ -80,3 +80,7 @@ call_counted old new before lines = counted_on old new before lines h.Call (next
 -- and at a cancel from outside
 pub cancel_counted : (old new : CoreView) (before lines : List Line) (k : ℕ) → new.taken ≡ old.taken → Steps old new before lines (h.Cancel k ∷ []) → IsCounted old → IsCounted new
 cancel_counted old new before lines k = counted_on old new before lines (h.Cancel k) (cancel_finishes old.calls (workers_of old) k (state_of old))
+
+-- and at a purge
+pub purge_counted : (old new : CoreView) (before lines : List Line) → new.taken ≡ old.taken → Steps old new before lines (h.Purge ∷ []) → IsCounted old → IsCounted new
+purge_counted old new before lines = counted_on old new before lines h.Purge refl

@@ -104,10 +104,11 @@ abbrev pub ContinuesAny : CoreView → CoreView → List Line → List Line → 
 ContinuesAny old new before after_lines happening = (past : List HistoryEntry) → IsHistoryOf old.calls (workers_of old) past → Stands old past
     → MayCome old.calls (happenings past) happening → ContinuesWith old new before after_lines (happening ∷ []) past
 
--- a call or a cancel, which may come before the happening of an event that was counted
+-- a call, a cancel or a purge, which may come before the happening of an event that was counted
 abbrev pub comes_before_event : Happening → Bool
 comes_before_event h.Call = true
 comes_before_event (h.Cancel k) = true
+comes_before_event h.Purge = true
 comes_before_event _ = false
 
 -- what each single happening leaves: the count of events taken, one task for each submission, and no more lines to come than

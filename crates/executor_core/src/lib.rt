@@ -37,7 +37,7 @@
 //! [`need`](Core::need) names what the step that would follow moves of the [`words`](Core::words), so that a layer can move words
 //! of its own first; [`sweeps`](Core::sweeps) tells whom a sweep would end. Each kind of happening has a step of its own as well
 //! ([`make_call`](Core::make_call), [`move_clock`](Core::move_clock), [`start`](Core::start), [`finish`](Core::finish),
-//! [`cancel`](Core::cancel)), and a need of its own but for a clock, which moves no word.
+//! [`cancel`](Core::cancel), [`purge`](Core::purge)), and a need of its own but for a clock and a purge, which move no word.
 //!
 //! A layer that needs both, what a happening moves and its step, hands what [`foresee`](Core::foresee) tells to
 //! [`happen_foreseen`](Core::happen_foreseen): the outcome of a finish is then worked out once. Of the others it tells the need
@@ -49,7 +49,7 @@
 //! calls with a moment of at most its own are made, in their order, and then the clock is moved. A worker that
 //! starts gets the first task that is due, or is idle. A task with one run is done with its value; one at a fixed
 //! rate, or with a fixed delay, waits for its next run. A run that fails is the last one of its task. A cancelled
-//! task that waits starts no more, and stays in the queue until a sweep, or a start at or after its due moment that is not
+//! task that waits starts no more, and stays in the queue until a sweep, a purge, or a start at or after its due moment that is not
 //! refused and gets no task before it, unless the remove policy is true; one whose run is under way runs on to the end, and its outcome is dropped.
 //! [`words`](Core::words) shows how far each task has come.
 //!
@@ -85,7 +85,7 @@
 //! calls take no memory. `event` takes memory for lines alone, and none where the list has room for one line, one for
 //! each call that is left and one for each task that is not cancelled. A clock costs what the calls that it reaches
 //! cost; a submission, a start, a finish and a cancel cost what the queue of waiting tasks does
-//! (see [`DelayQueue`](delay_queue::DelayQueue)), and a start also what the kept tasks that leave cost. Setting a policy
+//! (see [`DelayQueue`](delay_queue::DelayQueue)), and a start and a purge also what the kept tasks that leave cost. Setting a policy
 //! that does not sweep costs the same whatever it holds, and asking how far the executor is a look at each worker. A sweep
 //! goes over all tasks where there may be one that it ends: at a shutdown at once where a task waits, where periodic tasks do
 //! not go on and one of them waits, and the first time that delayed tasks are not executed. Each other sweep costs nothing

@@ -12,6 +12,7 @@ mod cancels;
 mod clocks;
 mod happenings;
 mod needs;
+mod purges;
 mod sweeps;
 mod workers;
 

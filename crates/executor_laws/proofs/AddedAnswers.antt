@@ -213,3 +213,4 @@ reply_alike calls p workers s (h.Finish w ending) is there admits = ap (λ answe
         ap (λ (terms : Terms). a.Finish w k (fate.starts - 1) (outcome_in fate.cancelled (stops_periodic s.shut s.stopped s.policies) terms.timing (due_at terms fate.starts (Some s.moment)) ending))
         (same_terms (task_count calls) calls p k is.last apart)
 reply_alike calls p workers s (h.Cancel k) is there admits = ap (λ b. bare (cond b (a.Outside k (effect_on ((view_of_state calls s).fate k))) (a.Error x.NoTask))) (has_task calls p k admits)
+reply_alike calls p workers s h.Purge is there admits = refl

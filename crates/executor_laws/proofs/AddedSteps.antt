@@ -86,6 +86,7 @@ moment_alike calls p now made (h.Clock t) admits = refl
 moment_alike calls p now made (h.Start w) admits = refl
 moment_alike calls p now made (h.Finish w ending) admits = refl
 moment_alike calls p now made (h.Cancel k) admits = refl
+moment_alike calls p now made h.Purge admits = refl
 
 -- the next call does not submit task n
 abbrev pub IsPassed : List Planned → ℕ → ℕ → Type 0
@@ -102,6 +103,7 @@ passed_by calls made n (h.Clock t) passed = tt
 passed_by calls made n (h.Start w) passed = tt
 passed_by calls made n (h.Finish w ending) passed = tt
 passed_by calls made n (h.Cancel k) passed = tt
+passed_by calls made n h.Purge passed = tt
 
 -- no call before the one that is added submits its task
 pub passed_before : (calls : List Planned) (made : ℕ) (happening : Happening) → IsOrderly calls → Passed calls made (task_count calls) happening
@@ -143,6 +145,7 @@ submits_none calls workers s n (h.Cancel k) passed = pick _
     pick : (b : Bool) → is_submit n (cond b (a.Outside k (effect_on ((view_of_state calls s).fate k))) (a.Error x.NoTask)) ≡ false
     pick true = refl
     pick false = refl
+submits_none calls workers s n h.Purge passed = refl
 
 passes_by : (calls : List Planned) (s : State) (n : ℕ) (answer : Answer) → NotThere s n → Finds calls s answer → is_submit n answer ≡ false → Passes n answer
 passes_by calls s n (a.Start w j run due) there f q =
@@ -271,6 +274,7 @@ cancels_none calls workers s n (h.Cancel k) there = record { cancel = pick _; en
     pick : (b : Bool) → is_cancel n (cond b (a.Outside k (effect_on ((view_of_state calls s).fate k))) (a.Error x.NoTask)) ≡ false
     pick true = no_effect calls s n k there
     pick false = refl
+cancels_none calls workers s n h.Purge there = record { cancel = refl; ends = refl }
 
 no_last : (n : ℕ) (answer : Answer) → Passes n answer → is_finish_with is_ended n answer ≡ false
 no_last n (a.Finish w j run outcome) by_it = ap (λ b. b && is_ended outcome) by_it.finish

@@ -34,6 +34,7 @@ admits calls p made now never (h.Start w) said low may below = tt
 admits calls p made now never (h.Finish w ending) said low may below = tt
 admits calls p made now never (h.Cancel k) said low may (inl there) = inl there
 admits calls p made now never (h.Cancel k) said low may (inr far) = inr (omega (arith, low, far))
+admits calls p made now never h.Purge said low may below = tt
 
 one_longer : (calls : List Planned) (p : Planned) → length (calls ++ p ∷ []) ≡ 1 + length calls
 one_longer [] p = refl
@@ -66,6 +67,7 @@ may_still calls p made now later never (h.Clock t) said same may clocks below = 
 may_still calls p made now later never (h.Start w) said same may clocks below = tt
 may_still calls p made now later never (h.Finish w ending) said same may clocks below = tt
 may_still calls p made now later never (h.Cancel k) said same may clocks below = tt
+may_still calls p made now later never h.Purge said same may clocks below = tt
 
 -- it is, and knows nothing of the task that the call submits
 record Still (calls : List Planned) (p : Planned) (workers : ℕ) (past : List HistoryEntry) : Type 0 where
@@ -141,6 +143,7 @@ looks_higher moment count more never (h.Start w) said le below = tt
 looks_higher moment count more never (h.Finish w ending) said le below = tt
 looks_higher moment count more never (h.Cancel k) said le (inl there) = inl (omega (arith, there, le))
 looks_higher moment count more never (h.Cancel k) said le (inr far) = inr far
+looks_higher moment count more never h.Purge said le below = tt
 
 all_higher : (moment count more never : ℕ) (past : List HistoryEntry) → count ≤ more → AllLookBelow moment count never past → AllLookBelow moment more never past
 all_higher moment count more never [] le below = All-nil (λ (e : HistoryEntry). LooksBelow moment more never e.happening e.answer)

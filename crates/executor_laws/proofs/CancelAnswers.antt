@@ -94,6 +94,7 @@ answers_stay calls workers s j (h.Cancel k) q = by (nat_lt k (task_count calls))
         cond b (a.Outside k (effect_on ((view_of_state calls (cancelled_at calls s j)).fate k))) (a.Error x.NoTask) ≡ cond b (a.Outside k (effect_on ((view_of_state calls s).fate k))) (a.Error x.NoTask)
     by true q = ap (a.Outside k) (effect_stays calls s j k q)
     by false q = refl
+answers_stay calls workers s j h.Purge q = refl
 
 -- the queue after task j was cancelled
 abbrev left_at : List Planned → State → ℕ → ℕ
@@ -142,3 +143,4 @@ asks_stay calls workers s j (h.Cancel k) queue running shut terminated q = absur
     by : (b : Bool) → cond b (a.Outside k (effect_on ((view_of_state calls s).fate k))) (a.Error x.NoTask) ≡ a.Ask queue running shut terminated → ⊥
     by true q = cc
     by false q = cc
+asks_stay calls workers s j h.Purge queue running shut terminated q = absurd cc

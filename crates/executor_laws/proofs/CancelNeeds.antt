@@ -199,6 +199,7 @@ needs_turn calls workers s j (h.Cancel k) used = by (nat_lt k (task_count calls)
         (need_of_answer s.shut (cond b (a.Outside k (effect_on ((view_of_state calls (cancelled_at calls s j)).fate k))) (a.Error x.NoTask)))
     by true = cancel_turns calls s j k
     by false = stays_so j n.Nothing n.Nothing (λ q. false≢true q)
+needs_turn calls workers s j h.Purge used = stays_so j n.Nothing n.Nothing (λ q. false≢true q)
 
 -- the law that only calls sweep
 pub only_calls_sweep : OnlyCallsSweep
@@ -230,6 +231,7 @@ only_calls_sweep calls workers s (h.Cancel k) q sweep = by (nat_lt k (task_count
     by : (b : Bool) → need_of_answer s.shut (cond b (a.Outside k (effect_on ((view_of_state calls s).fate k))) (a.Error x.NoTask)) ≡ n.Sweep → ⊥
     by true r = subst (IsNeedOf k) r (cancel_is_of k (effect_on ((view_of_state calls s).fate k)))
     by false r = cc
+only_calls_sweep calls workers s h.Purge q sweep = cc
 
 -- the law that a cancel from outside needs the cancel of its task, or nothing
 pub outside_needs_its_cancel : OutsideNeedsItsCancel

@@ -148,3 +148,4 @@ ends_but calls workers s j (h.Clock moment) k = refl
 ends_but calls workers s j (h.Start v) k = refl
 ends_but calls workers s j (h.Finish v ending) k = refl
 ends_but calls workers s j (h.Cancel i) k = refl
+ends_but calls workers s j h.Purge k = refl

@@ -102,6 +102,7 @@ once_ends calls workers v (h.Finish u ending) k once =
 once_ends calls workers v (h.Cancel j) k once =
     let pick : (b : Bool) → Ends v k (cond b (a.Outside j (effect_on (v.fate j))) (a.Error x.NoTask)) = elim [ true ↦ λ q. absurd (false≢true q) | false ↦ λ q. absurd (false≢true q) ] in
     pick _
+once_ends calls workers v h.Purge k once = λ q. absurd (false≢true q)
 
 -- a one-shot task that finished is over
 over_of : (calls : List Planned) (workers : ℕ) (past : List HistoryEntry) (k : ℕ) → IsHistoryOf calls workers past → (terms_of calls k).timing ≡ t.Once

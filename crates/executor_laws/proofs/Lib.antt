@@ -16,6 +16,7 @@ pub mod Refusals
 pub mod Termination
 pub mod Stopping
 pub mod Kept
+pub mod KeptAlone
 pub mod Asks
 pub mod Lines
 pub mod WordWrites

@@ -154,6 +154,7 @@ reply_in_range calls workers past view (h.Cancel k) orderly seen ended = by (nat
     by : (b : Bool) → nat_lt k (task_count calls) ≡ b → IsAnswerInRange calls workers past (cond b (a.Outside k (effect_on (view.fate k))) (a.Error x.NoTask))
     by true is = ltb-true k (task_count calls) is
     by false is = tt
+reply_in_range calls workers past view h.Purge orderly seen ended = tt
 
 -- ---- lines
 

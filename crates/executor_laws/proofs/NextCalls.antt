@@ -52,6 +52,7 @@ now_stays calls n now (h.Clock moment) q o may before next = by (is_accepted now
 now_stays calls n now (h.Start w) q o may before next = before q next
 now_stays calls n now (h.Finish w ending) q o may before next = before q next
 now_stays calls n now (h.Cancel k) q o may before next = before q next
+now_stays calls n now h.Purge q o may before next = before q next
 
 made_next : (y : Happening) (past : List Happening) → made (y ∷ past) ≡ made_after (made past) y
 made_next h.Call past = refl
@@ -59,6 +60,7 @@ made_next (h.Clock moment) past = refl
 made_next (h.Start w) past = refl
 made_next (h.Finish w ending) past = refl
 made_next (h.Cancel k) past = refl
+made_next h.Purge past = refl
 
 -- the next call of a history is not before now
 pub next_not_before : (calls : List Planned) (workers : ℕ) (past : List HistoryEntry) (p : Planned) → IsOrderly calls → IsHistoryOf calls workers past →

@@ -84,6 +84,7 @@ work_is_told calls workers v (h.Finish u ending) w =
 work_is_told calls workers v (h.Cancel k) w =
     let pick : (b : Bool) → Told w (v.work w) (cond b (a.Outside k (effect_on (v.fate k))) (a.Error x.NoTask)) = elim [ true ↦ tt | false ↦ tt ] in
     pick _
+work_is_told calls workers v h.Purge w = tt
 
 -- the same of an entry in a history
 entry_tells : (calls : List Planned) (workers : ℕ) (past : List HistoryEntry) (e : HistoryEntry) (w : ℕ) → IsHistoryOf calls workers (e ∷ past) → Told w (work_of w past) e.answer
@@ -236,6 +237,7 @@ rises now call (h.Clock t) =
 rises now call (h.Start w) = omega arith
 rises now call (h.Finish w ending) = omega arith
 rises now call (h.Cancel k) = omega arith
+rises now call h.Purge = omega arith
 
 -- the moment of an entry is at most now
 below_here : (calls : List Planned) (workers : ℕ) (e : HistoryEntry) (before : List HistoryEntry) (t : ℕ) → IsHistoryOf calls workers (e ∷ before) → HasMoment calls e before t → t ≤ now_of calls (happenings (e ∷ before))
@@ -304,6 +306,7 @@ now_shown calls workers (e ∷ past) m =
       | h.Start w ↦ λ y. old
       | h.Finish w ending ↦ λ y. old
       | h.Cancel k ↦ λ y. old
+      | h.Purge ↦ λ y. old
     ]
     in
     go e.happening refl

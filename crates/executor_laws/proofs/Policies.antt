@@ -75,6 +75,7 @@ ended_says calls workers v (h.Finish u ending) k =
 ended_says calls workers v (h.Cancel j) k =
     let other : (b : Bool) → EndsLive v k (cond b (a.Outside j (effect_on (v.fate j))) (a.Error x.NoTask)) = elim [ true ↦ λ q. absurd (false≢true q) | false ↦ λ q. absurd (false≢true q) ] in
     other _
+ended_says calls workers v h.Purge k = λ q. absurd (false≢true q)
 
 -- a reply that cancels a task finds it not cancelled
 cancels_say : (calls : List Planned) (workers : ℕ) (v : View) (y : Happening) (k : ℕ) → cancels k (reply calls workers v y).answer (reply calls workers v y).ends ≡ true → (v.fate k).cancelled ≡ false
@@ -134,13 +135,14 @@ policies_are_the_last_set past which = (
 
 -- ---- the shutdowns
 
--- an answer is one to an event
+-- an answer is one to no call
 abbrev is_of_event : Answer → Bool
 is_of_event a.Clock = true
 is_of_event (a.Start worker task run due) = true
 is_of_event (a.Idle worker) = true
 is_of_event (a.Finish worker task run outcome) = true
 is_of_event (a.Outside task effect) = true
+is_of_event a.Purge = true
 is_of_event (a.Error error) = true
 is_of_event _ = false
 
@@ -222,6 +224,7 @@ tell_says tells test of calls workers v (h.Finish u ending) q =
 tell_says tells test of calls workers v (h.Cancel j) q =
     let other : (b : Bool) → tells (cond b (a.Outside j (effect_on (v.fate j))) (a.Error x.NoTask)) ≡ true → ⊥ = elim [ true ↦ λ q. event_silent tells test of _ refl q | false ↦ λ q. event_silent tells test of _ refl q ] in
     absurd (other _ q)
+tell_says tells test of calls workers v h.Purge q = absurd (event_silent tells test of a.Purge refl q)
 
 -- where such a call was told, one was made
 told_was_made : (tells : Answer → Bool) (test : CodeCall → Bool) → Tells tells test → (calls : List Planned) (workers : ℕ) (past : List HistoryEntry) → IsHistoryOf calls workers past → list_any (λ e. tells e.answer) past ≡ true → WasMade test calls past
@@ -264,6 +267,7 @@ made_was_told tells test of calls workers (e ∷ past) m w =
       | h.Start w ↦ λ is low. behind low
       | h.Finish w ending ↦ λ is low. behind low
       | h.Cancel k ↦ λ is low. behind low
+      | h.Purge ↦ λ is low. behind low
     ]
     in
     go e.happening refl w.before
@@ -343,6 +347,7 @@ sweeps_those calls workers v (h.Finish u ending) =
 sweeps_those calls workers v (h.Cancel j) =
     let pick : (b : Bool) → SweepsThose calls v (bare (cond b (a.Outside j (effect_on (v.fate j))) (a.Error x.NoTask))) = elim [ true ↦ (λ q. absurd (false≢true q), λ q. refl) | false ↦ (λ q. absurd (false≢true q), λ q. refl) ] in
     pick _
+sweeps_those calls workers v h.Purge = (λ q. absurd (false≢true q), λ q. refl)
 
 -- the law on the tasks that an answer ends
 pub sweeps_end_those : SweepsEndThose

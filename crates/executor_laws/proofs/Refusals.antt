@@ -82,6 +82,7 @@ refuse_says calls workers v (h.Finish u ending) k why q =
 refuse_says calls workers v (h.Cancel j) k why q =
     let other : (b : Bool) → cond b (a.Outside j (effect_on (v.fate j))) (a.Error x.NoTask) ≡ a.Refuse k why → ⊥ = elim [ true ↦ λ q. cc | false ↦ λ q. cc ] in
     absurd (other _ q)
+refuse_says calls workers v h.Purge k why q = absurd cc
 
 -- two calls that submit a task are one
 one_place : (calls : List Planned) (k n m : ℕ) (p q : Planned) → IsOrderly calls → slice_get calls n ≡ Some p → IsSubmissionOf k p.1 → slice_get calls m ≡ Some q → IsSubmissionOf k q.1 → n ≡ m

@@ -176,6 +176,7 @@ again_says calls workers v (h.Finish u ending) w k n d q =
 again_says calls workers v (h.Cancel j) w k n d q =
     let other : (b : Bool) → cond b (a.Outside j (effect_on (v.fate j))) (a.Error x.NoTask) ≡ a.Finish w k n (o.Again d) → ⊥ = elim [ true ↦ λ q. cc | false ↦ λ q. cc ] in
     absurd (other _ q)
+again_says calls workers v h.Purge w k n d q = absurd cc
 
 -- the law that the due moment of a finish is that of the next run
 pub again_is_due : AgainIsDue
@@ -305,6 +306,7 @@ cancel_says calls workers v (h.Cancel j) k =
     elim [ true ↦ effect_live v j k | false ↦ λ q. absurd (false≢true q) ]
     in
     pick (nat_lt j (task_count calls))
+cancel_says calls workers v h.Purge k = λ q. absurd (false≢true q)
 
 -- the law that one cancel of a task at most has an effect
 pub cancels_have_one_effect : CancelsHaveOneEffect

@@ -93,6 +93,7 @@ ask_says calls workers v (h.Finish u ending) q =
 ask_says calls workers v (h.Cancel j) q =
     let pick : (b : Bool) → IsAsk (cond b (a.Outside j (effect_on (v.fate j))) (a.Error x.NoTask)) → ⊥ = elim [ true ↦ λ q. q | false ↦ λ q. q ] in
     absurd (pick _ q)
+ask_says calls workers v h.Purge q = absurd q
 
 -- ---- the tasks that an answer ends
 
@@ -143,3 +144,4 @@ ends_say calls workers v (h.Clock t) k q = absurd (false≢true q)
 ends_say calls workers v (h.Start w) k q = absurd (false≢true q)
 ends_say calls workers v (h.Finish w ending) k q = absurd (false≢true q)
 ends_say calls workers v (h.Cancel j) k q = absurd (false≢true q)
+ends_say calls workers v h.Purge k q = absurd (false≢true q)

@@ -65,6 +65,7 @@ idle_says calls workers v (h.Cancel k) w q = by (nat_lt k (task_count calls)) q
     by : (b : Bool) → cond b (a.Outside k (effect_on (v.fate k))) (a.Error x.NoTask) ≡ a.Idle w → first_enabled v (numbers calls) ≡ None
     by true q = absurd cc
     by false q = absurd cc
+idle_says calls workers v h.Purge w q = absurd cc
 
 -- ---- one entry
 

@@ -67,6 +67,7 @@ submit_says calls workers v (h.Finish w ending) k q =
 submit_says calls workers v (h.Cancel j) k q =
     let other : (b : Bool) → is_submit k (cond b (a.Outside j (effect_on (v.fate j))) (a.Error x.NoTask)) ≡ true → ⊥ = elim [ true ↦ λ q. false≢true q | false ↦ λ q. false≢true q ] in
     absurd (other _ q)
+submit_says calls workers v h.Purge k q = absurd (false≢true q)
 
 -- ---- a task whose submission was accepted was submitted by a call that was made
 
@@ -77,6 +78,7 @@ made_more (h.Clock t) past = omega arith
 made_more (h.Start w) past = omega arith
 made_more (h.Finish w ending) past = omega arith
 made_more (h.Cancel k) past = omega arith
+made_more h.Purge past = omega arith
 
 submitted_behind : (calls : List Planned) (y : Happening) (past : List Happening) (k : ℕ) → WasSubmitted calls past k → WasSubmitted calls (y ∷ past) k
 submitted_behind calls y past k s = record { place = s.place; call = s.call; there = s.there; submits = s.submits; before = omega (arith, s.before, made_more y past) }
@@ -190,6 +192,7 @@ finish_keeps calls workers v (h.Clock t) k now call q =
 finish_keeps calls workers v (h.Start w) k now call q = refl
 finish_keeps calls workers v (h.Finish w ending) k now call q = refl
 finish_keeps calls workers v (h.Cancel j) k now call q = refl
+finish_keeps calls workers v h.Purge k now call q = refl
 
 -- the law that a finish does not move now
 pub finish_keeps_now : FinishKeepsNow

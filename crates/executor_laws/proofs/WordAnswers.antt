@@ -92,6 +92,7 @@ says calls workers s (h.Finish u ending) =
 says calls workers s (h.Cancel k) =
     let pick : (b : Bool) → Says calls s (cond b (a.Outside k (effect_on ((view_of_state calls s).fate k))) (a.Error x.NoTask)) = elim [ true ↦ refl | false ↦ tt ] in
     pick (nat_lt k (task_count calls))
+says calls workers s h.Purge = tt
 
 meets_all : (calls : List Planned) (s : State) (answer : Answer) → IsSound s → Finds calls s answer → Says calls s answer → (k : ℕ) → Meets k (s.tasks k) answer
 meets_all calls s (a.Cancel j effect) sound found says k = λ q yes. subst (λ i. is_live (word_phase (s.tasks i).phase) ≡ true) (eqb-true j k q) (live_of (terms_of calls j) (s.tasks j) (sym says ∙ yes))

@@ -8,6 +8,7 @@ pub mod Positions
 pub mod Laws
 pub mod TaskWords
 pub mod Policies
+pub mod Purges
 pub mod Asks
 pub mod NeedWrites
 pub mod Cancels

@@ -153,7 +153,7 @@ SweepsEndThose = (calls : List Planned) (workers : ℕ) (past : List HistoryEntr
 
 -- kept tasks
 
--- task k was cancelled while it waited and the remove policy was false, and since then there was no sweep, and no start
+-- task k was cancelled while it waited and the remove policy was false, and since then there was no sweep, and no purge or start
 -- that meets it at the due moment that it had
 pub record KeptSince (calls : List Planned) (past : List HistoryEntry) (k : ℕ) : Type 0 where
   pub later : List HistoryEntry

@@ -14,7 +14,7 @@
 //! answer lowers the rank of a word or changes a cancelled one, that an error changes nothing, and that a need names what a
 //! step moves. The fourth one is on cancels from outside, as a layer needs them that meets them in words first: the word of a
 //! task decides the answer, and a cancel with an effect touches its task alone. The fifth one is on policies, the shutdown,
-//! sweeps and kept tasks. The sixth one is on calls that are added while the executor runs: a history of the calls before
+//! sweeps, kept tasks and purges. The sixth one is on calls that are added while the executor runs: a history of the calls before
 //! is one of the longer calls too, with the same lines, and leads to the same state and moment. The seventh one is on tasks
 //! that were accepted: none is lost, and the turn of each that is due comes. The last one says that `==` of the executor's
 //! types is true exactly of the same values.
@@ -40,6 +40,7 @@ mod cancels;
 mod equality;
 mod laws;
 mod positions;
+mod purging;
 mod states;
 mod sweeps;
 mod turns;
@@ -68,6 +69,7 @@ pub use positions::{
     tasks_are_submitted, terms_are_its_own, waiting_is_a_task, waiting_is_due_in_time,
     work_is_the_last_start,
 };
+pub use purging::{purges_change_asks_alone, purges_take_the_kept};
 pub use states::{
     cancelled_words_stay, errors_change_nothing, needs_move_words, ranks_do_not_fall,
     words_tell_the_history,

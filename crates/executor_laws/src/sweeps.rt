@@ -65,7 +65,7 @@ pub fn sweeps_end_those()
 {}
 
 /// A task is kept exactly when it was cancelled while it waited, the remove policy was false then, and since then there
-/// was no sweep and no start that meets it.
+/// was no sweep, and no purge or start that meets it.
 pub fn kept_by_positions()
     ensures { KeptByPositions }
 {}

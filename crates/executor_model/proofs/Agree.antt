@@ -1,5 +1,5 @@
 -- The state that steps lead to agrees with the history.
-use Rattle.std.proofs.Common.{◌≡◌, ◌≢◌, ℕ, ◌≤◌, ◌==◌, ◌||◌, Bool, true, false, cond, List, [], ◌∷◌, Option, refl, sym, ap, ◌∙◌, arith, subst}
+use Rattle.std.proofs.Common.{◌≡◌, ℕ, ◌≤◌, ◌==◌, ◌||◌, Bool, true, false, cond, List, [], ◌∷◌, Option, refl, sym, ap, ◌∙◌, arith, subst}
 use Rattle.std.specs.Prelude.{slice_get, max, nat_lt, Some, None}
 use Rattle.std.specs.Option.{option_map_or}
 use Rattle.std.proofs.lemmas.Bool.{false≢true, eqb-true}
@@ -152,6 +152,7 @@ shut_submits_none calls workers s (h.Finish w ending) shut =
 shut_submits_none calls workers s (h.Cancel k) shut =
     let pick : (b : Bool) → SubmitsNone (cond b (a.Outside k (effect_on ((view_of_state calls s).fate k))) (a.Error x.NoTask)) = elim [ true ↦ tt | false ↦ tt ] in
     pick (nat_lt k (task_count calls))
+shut_submits_none calls workers s h.Purge shut = tt
 
 -- where no one-shot task waits whose due moment is not reached, a step keeps it so
 pub next_none_delayed : (calls : List Planned) (workers : ℕ) (s : State) (happening : Happening) → IsSound s → TimingsAgree calls s → s.shut ≡ true → NoneDelayed s → NoneDelayed (next calls workers s happening)

@@ -75,6 +75,7 @@ errors_change_nothing calls workers s (h.Clock t) error q =
 errors_change_nothing calls workers s (h.Start w) error q = unmoved calls s (h.Start w) (reply_of calls workers s (h.Start w)).answer error q refl refl
 errors_change_nothing calls workers s (h.Finish w ending) error q = unmoved calls s (h.Finish w ending) (reply_of calls workers s (h.Finish w ending)).answer error q refl refl
 errors_change_nothing calls workers s (h.Cancel k) error q = unmoved calls s (h.Cancel k) (reply_of calls workers s (h.Cancel k)).answer error q refl refl
+errors_change_nothing calls workers s h.Purge error q = absurd cc
 
 -- no call is made before an event that is answered by an error
 pub none_before : (calls : List Planned) (workers : ℕ) (s : State) (event : Event) (error : EventError) → (reply_of calls workers s (happening_of event)).answer ≡ a.Error error → calls_before calls s.made s.moment event ≡ 0

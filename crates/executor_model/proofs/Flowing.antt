@@ -113,7 +113,7 @@ made_past calls workers [] m = omega arith
 made_past calls workers (e ∷ past) m =
     let rest = made_past calls workers past m.0 in
     let one : (x : Happening) → MayCome calls (happenings past) x → made (x ∷ happenings past) ≤ length calls =
-    elim [ h.Call ↦ λ may. omega (arith, may) | h.Clock t ↦ λ may. rest | h.Start w ↦ λ may. rest | h.Finish w ending ↦ λ may. rest | h.Cancel k ↦ λ may. rest ]
+    elim [ h.Call ↦ λ may. omega (arith, may) | h.Clock t ↦ λ may. rest | h.Start w ↦ λ may. rest | h.Finish w ending ↦ λ may. rest | h.Cancel k ↦ λ may. rest | h.Purge ↦ λ may. rest ]
     in
     one e.happening m.1
 

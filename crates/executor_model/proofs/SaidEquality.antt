@@ -21,6 +21,9 @@ same_cancel effect task b q = grind (arith)
 same_outside : (effect : CancelEffect) (task : ℕ) (b : Said) → equality.ghosts.eq (s.Outside effect task) b ≡ true → s.Outside effect task ≡ b
 same_outside effect task b q = grind (arith)
 
+same_purge : (b : Said) → equality.ghosts.eq s.Purge b ≡ true → s.Purge ≡ b
+same_purge b q = grind (arith)
+
 same_policy : (which : Which) (value : Bool) (b : Said) → equality.ghosts.eq (s.Policy which value) b ≡ true → s.Policy which value ≡ b
 same_policy which value b q = grind (arith)
 
@@ -72,6 +75,7 @@ said_is_same (s.Submit kind task due) b q = same_submit kind task due b q
 said_is_same (s.Refuse refusal task) b q = same_refuse refusal task b q
 said_is_same (s.Cancel effect task) b q = same_cancel effect task b q
 said_is_same (s.Outside effect task) b q = same_outside effect task b q
+said_is_same s.Purge b q = same_purge b q
 said_is_same (s.Policy which value) b q = same_policy which value b q
 said_is_same s.Shutdown b q = same_shutdown b q
 said_is_same s.ShutdownAgain b q = same_shutdown_again b q
@@ -94,6 +98,7 @@ said_equals_itself (s.Submit kind task due) = grind (arith)
 said_equals_itself (s.Refuse refusal task) = grind (arith)
 said_equals_itself (s.Cancel effect task) = grind (arith)
 said_equals_itself (s.Outside effect task) = grind (arith)
+said_equals_itself s.Purge = grind (arith)
 said_equals_itself (s.Policy which value) = grind (arith)
 said_equals_itself s.Shutdown = grind (arith)
 said_equals_itself s.ShutdownAgain = grind (arith)

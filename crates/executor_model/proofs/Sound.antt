@@ -169,6 +169,7 @@ reply_finds calls workers s (h.Finish w ending) sound =
 reply_finds calls workers s (h.Cancel k) sound =
     let pick : (b : Bool) → Finds calls s (cond b (a.Outside k (effect_on ((view_of_state calls s).fate k))) (a.Error x.NoTask)) = elim [ true ↦ tt | false ↦ tt ] in
     pick (nat_lt k (task_count calls))
+reply_finds calls workers s h.Purge sound = tt
 
 -- what each reply finds of each task, as its move needs it
 pub fits_all : (calls : List Planned) (s : State) (answer : Answer) → IsSound s → Finds calls s answer → (k : ℕ) → Fits (terms_of calls k) s.moment k (s.tasks k) answer

@@ -140,6 +140,7 @@ later now next (h.Clock moment) =
 later now next (h.Start worker) = omega arith
 later now next (h.Finish worker ending) = omega arith
 later now next (h.Cancel task) = omega arith
+later now next h.Purge = omega arith
 
 -- the due moment of a task that runs after an answer was reached
 run_reached : (calls : List Planned) (s : State) (answer : Answer) → IsSound s → Finds calls s answer → (k : ℕ) → phase_after calls s answer k ≡ ph.Running →

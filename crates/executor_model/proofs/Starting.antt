@@ -58,3 +58,4 @@ start_says calls workers v (h.Finish u ending) w k n d q =
 start_says calls workers v (h.Cancel j) w k n d q =
     let other : (b : Bool) → cond b (a.Outside j (effect_on (v.fate j))) (a.Error x.NoTask) ≡ a.Start w k n d → ⊥ = elim [ true ↦ λ q. cc | false ↦ λ q. cc ] in
     absurd (other _ q)
+start_says calls workers v h.Purge w k n d q = absurd cc

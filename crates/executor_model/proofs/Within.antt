@@ -65,6 +65,7 @@ moment_within calls n now (h.Clock t) o l =
 moment_within calls n now (h.Start w) o l = l
 moment_within calls n now (h.Finish w ending) o l = l
 moment_within calls n now (h.Cancel k) o l = l
+moment_within calls n now h.Purge o l = l
 
 -- it never passes the limit of a moment
 pub now_within : (calls : List Planned) (past : List Happening) → IsOrderly calls → now_of calls past ≤ 2 ^ 62

@@ -11,7 +11,7 @@ use Rattle.executor_model.specs.declared.task.Stage.TheVariants as ph
 use Rattle.sched_time.specs.declared.timing.Ending.{Ending}
 use Rattle.queue_code.specs.Calls.{Planned, terms_of, due_at}
 use Rattle.executor_model.specs.Answers.{bare, finish_answer, outcome_in, due_next, stops_periodic}
-use Rattle.executor_model.specs.State.{State, view_of_state, seen_phase, due_seen, due_ahead, due_past, next, reply_of}
+use Rattle.executor_model.specs.State.{State, view_of_state, seen_phase, due_seen, due_ahead, due_past, reply_of}
 use Rattle.executor_model.specs.own.Soundness.{IsDue}
 use Rattle.executor_model.proofs.Moves.{due_landed, past_is_landed}
 

@@ -182,7 +182,7 @@ moment_after now call h.Call = option_map_or (λ p. max now p.0) call now
 moment_after now call (h.Clock moment) = if is_accepted now moment then moment else now
 moment_after now call _ = now
 
--- the answer to a happening; a call past the last one never comes
+-- the answer to a happening; a call past the last one never comes, and a purge is answered so in each view
 abbrev pub reply : List Planned → ℕ → View → Happening → Reply
 reply calls workers v h.Call =
     option_map_or (λ p. called calls (record v { moment = max v.moment p.0 }) p.1) (slice_get calls v.made) (bare a.Clock)
@@ -194,3 +194,4 @@ reply calls workers v (h.Finish w ending) =
     bare (if nat_lt w workers then finish_answer calls v w ending (v.work w) else a.Error x.NoWorker)
 reply calls workers v (h.Cancel k) =
     bare (if nat_lt k (task_count calls) then a.Outside k (effect_on (v.fate k)) else a.Error x.NoTask)
+reply calls workers v h.Purge = bare a.Purge

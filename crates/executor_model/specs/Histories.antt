@@ -134,11 +134,13 @@ is_sweep shut a.ShutdownNow = true
 is_sweep shut (a.Policy which value) = setting_sweeps shut which value
 is_sweep shut _ = false
 
--- a start that is not refused meets task k, which is kept and due at `due`: its due moment is reached, and the start
--- gets no task, or one after it in the order
+-- an answer meets task k, which is kept and due at `due`: each purge does, and a start that is not refused does where its due
+-- moment is reached, and the start gets no task, or one after it in the order
+-- (of a purge ThreadPoolExecutor.purge: "Tries to remove from the work queue all Future tasks that have been cancelled.")
 abbrev pub meets : View → ℕ → ℕ → Answer → Bool
 meets v due k (a.Idle worker) = nat_le due v.moment
 meets v due k (a.Start worker task run at) = nat_le due v.moment && comes_before due k (v.fate task).due task
+meets v due k a.Purge = true
 meets v due k _ = false
 
 -- task k is kept after an answer, in the view before it: there was no sweep, and it was kept and is not met, or is
@@ -235,8 +237,8 @@ view_with calls past kept = record {
 
 -- task k was cancelled while it waited, and still stands in the queue
 -- (the law `kept_by_positions` says it as a sentence: at some position it was cancelled while it waited and the remove policy
--- was false, and at no position since was there a sweep, or a start that was not refused, at or after the due moment that it
--- had, that was idle or got a task after it in the order)
+-- was false, and at no position since was there a sweep, a purge, or a start that was not refused, at or after the due moment
+-- that it had, that was idle or got a task after it in the order)
 abbrev pub is_kept : List Planned → List HistoryEntry → ℕ → Bool
 is_kept calls [] k = false
 is_kept calls (e ∷ past) k = kept_after (view_with calls past (λ j. is_kept calls past j)) k e.answer

@@ -21,6 +21,7 @@ enum Flat {
     Done(u8, u64),
     Failed(u8, u32),
     Cancel(u32),
+    Purge,
 }
 
 const _: () = prove!(size_of::<KeptHappening>() == 16);
@@ -51,6 +52,7 @@ impl KeptHappening {
             Happening::Finish(worker, Ending::Value(value)) => Flat::Done(worker, value),
             Happening::Finish(worker, Ending::Fault(code)) => Flat::Failed(worker, code),
             Happening::Cancel(task) => Flat::Cancel(task),
+            Happening::Purge => Flat::Purge,
         };
         KeptHappening { flat }
     }
@@ -67,6 +69,7 @@ impl KeptHappening {
             Flat::Done(worker, value) => Happening::Finish(worker, Ending::Value(value)),
             Flat::Failed(worker, code) => Happening::Finish(worker, Ending::Fault(code)),
             Flat::Cancel(task) => Happening::Cancel(task),
+            Flat::Purge => Happening::Purge,
         }
     }
 }

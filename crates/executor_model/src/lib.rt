@@ -2,8 +2,8 @@
 //!
 //! # Usage
 //!
-//! An [`Event`] is what the outside reports; a [`Happening`] is one, or the next call of the plan. Each gets an [`Answer`]. A
-//! [`Line`] of a trace is the moment with a [`Message`], which is an answer, or that a task was ended.
+//! An [`Event`] is what the outside reports; a [`Happening`] is one, the next call of the plan, or a purge. Each gets an
+//! [`Answer`]. A [`Line`] of a trace is the moment with a [`Message`], which is an answer, or that a task was ended.
 //!
 //! ```rust
 //! // At moment 5 worker 0 has a run of task 0 behind it, which gave the value 7.

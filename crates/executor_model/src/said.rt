@@ -28,6 +28,7 @@ pub enum Said {
         effect: CancelEffect,
         task: u32,
     },
+    Purge,
     Policy {
         which: Which,
         value: bool,
@@ -105,6 +106,7 @@ impl Said {
             Answer::Refuse { task, refusal } => Said::Refuse { refusal, task },
             Answer::Cancel { task, effect } => Said::Cancel { effect, task },
             Answer::Outside { task, effect } => Said::Outside { effect, task },
+            Answer::Purge => Said::Purge,
             Answer::Policy { which, value } => Said::Policy { which, value },
             Answer::Shutdown => Said::Shutdown,
             Answer::ShutdownAgain => Said::ShutdownAgain,
@@ -186,6 +188,7 @@ impl Said {
             Said::Refuse { refusal, task } => Message::Answer(Answer::Refuse { task, refusal }),
             Said::Cancel { effect, task } => Message::Answer(Answer::Cancel { task, effect }),
             Said::Outside { effect, task } => Message::Answer(Answer::Outside { task, effect }),
+            Said::Purge => Message::Answer(Answer::Purge),
             Said::Policy { which, value } => Message::Answer(Answer::Policy { which, value }),
             Said::Shutdown => Message::Answer(Answer::Shutdown),
             Said::ShutdownAgain => Message::Answer(Answer::ShutdownAgain),

@@ -19,7 +19,7 @@ pub enum Event {
     Cancel(u32),
 }
 
-/// One happening of the executor: an event, or the next call of the plan.
+/// One happening of the executor: an event, the next call of the plan, or a purge.
 #[derive(Clone, Copy, Debug, PartialEq, Eq)]
 pub enum Happening {
     /// The next call of the plan is made.
@@ -32,6 +32,8 @@ pub enum Happening {
     Finish(u8, Ending),
     /// A cancel of this task is asked for from outside the plan.
     Cancel(u32),
+    /// The tasks that were cancelled while they waited, and are kept, are to leave the queue.
+    Purge,
 }
 
 impl Event {
@@ -136,6 +138,8 @@ pub enum Answer {
         task: u32,
         effect: CancelEffect,
     },
+    /// The tasks that were cancelled while they waited have left the queue.
+    Purge,
     /// A policy was set.
     Policy {
         which: Which,

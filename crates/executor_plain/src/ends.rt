@@ -40,8 +40,11 @@ pub fn ends_after<A: Allocator>(
             }
             None => Ok(Vec::new(alloc)),
         },
-        Happening::Clock(_) | Happening::Start(_) | Happening::Finish(..) | Happening::Cancel(_) =>
-            { Ok(Vec::new(alloc)) }
+        Happening::Clock(_)
+        | Happening::Start(_)
+        | Happening::Finish(..)
+        | Happening::Cancel(_)
+        | Happening::Purge => Ok(Vec::new(alloc)),
     }
 }
 

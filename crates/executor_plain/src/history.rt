@@ -86,7 +86,8 @@ fn moment_after(now: u64, call: Option<(u64, CodeCall)>, happening: Happening) -
                 now
             }
         }
-        Happening::Start(_) | Happening::Finish(..) | Happening::Cancel(_) => now,
+        Happening::Start(_) | Happening::Finish(..) | Happening::Cancel(_) | Happening::Purge =>
+            now,
     }
 }
 

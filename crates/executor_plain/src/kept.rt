@@ -11,7 +11,7 @@ use executor_model::Answer;
 use queue_code::CodeCall;
 use std::alloc::Allocator;
 
-/// Whether a start that has this answer meets a task, where the task is kept.
+/// Whether a purge, or a start that has this answer, meets a task, where the task is kept.
 fn meets<A: Allocator>(calls: &[(u64, CodeCall)], past: &[Past<A>], k: u32, answer: Answer) -> bool
     requires orderly { IsPlanned calls.now }
     requires answered { IsAnsweredBySome calls.now past.now }
@@ -20,6 +20,7 @@ fn meets<A: Allocator>(calls: &[(u64, CodeCall)], past: &[Past<A>], k: u32, answ
         (histories.due_of calls.now past.now k) k answer }
 {
     match answer {
+        Answer::Purge => true,
         Answer::Idle { .. } => is_reached(calls, past, k),
         Answer::Start { task, .. } => {
             is_reached(calls, past, k) && precedes(calls, past, k, task)

@@ -42,6 +42,7 @@ pub fn answer_after<A: Allocator>(
         Happening::Start(worker) => answer_start(calls, workers, past, worker),
         Happening::Finish(worker, ending) => answer_finish(calls, workers, past, worker, ending),
         Happening::Cancel(task) => answer_cancel(calls, past, task),
+        Happening::Purge => Answer::Purge,
     }
 }
 

@@ -54,7 +54,7 @@ task_there slots i k is = by (slot_of slots i) refl (sym (number_at slots i) ∙
     by (Some x) there q = (x, there, same_Some x.number k q)
 
 -- whatever is left in a slot was there, and so was its number
-leaves_numbers : (old new : TableView) → LeavesThere old new → length new.slots ≡ length old.slots → LeavesSlots old.slots new.slots
+pub leaves_numbers : (old new : TableView) → LeavesThere old new → length new.slots ≡ length old.slots → LeavesSlots old.slots new.slots
 leaves_numbers old new leaves size = record {
   numbers = λ i k is. let x = task_there new.slots i k is in number_there old.slots i x.0 (leaves i x.0 x.1) ∙ ap Some x.2;
   size = size;

@@ -26,3 +26,4 @@ pub mod Imaging
 pub mod Restored
 pub mod Limited
 pub mod Leaving
+pub mod Purged

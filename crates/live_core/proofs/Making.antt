@@ -32,6 +32,7 @@ look_higher moment later count more never (h.Start w) said l n below = tt
 look_higher moment later count more never (h.Finish w ending) said l n below = tt
 look_higher moment later count more never (h.Cancel k) said l n (inl there) = inl (omega (arith, there, n))
 look_higher moment later count more never (h.Cancel k) said l n (inr far) = inr far
+look_higher moment later count more never h.Purge said l n below = tt
 
 pub all_look_higher : (moment later count more never : ℕ) (past : List HistoryEntry) → moment ≤ later → count ≤ more → AllLookBelow moment count never past → AllLookBelow later more never past
 all_look_higher moment later count more never [] l n below = All-nil (λ (e : HistoryEntry). LooksBelow later more never e.happening e.answer)
@@ -77,6 +78,7 @@ now_later now call (h.Clock t) = by (is_accepted now t) refl
 now_later now call (h.Start w) = omega arith
 now_later now call (h.Finish w ending) = omega arith
 now_later now call (h.Cancel k) = omega arith
+now_later now call h.Purge = omega arith
 
 call_by : (now : ℕ) (p : Planned) (call : Option Planned) → call ≡ Some p → p.0 ≤ moment_after now call h.Call
 call_by now p call is = subst (λ o. p.0 ≤ moment_after now o h.Call) (sym is) by
@@ -100,6 +102,7 @@ made_more calls past y n q is l before = by y l
     by (h.Start w) l = later (h.Start w) l
     by (h.Finish w ending) l = later (h.Finish w ending) l
     by (h.Cancel k) l = later (h.Cancel k) l
+    by h.Purge l = later h.Purge l
 
 -- a call that was made has a moment of at most now
 made_by : (calls : List Planned) (past : List Happening) (n : ℕ) (q : Planned) → slice_get calls n ≡ Some q → n < made past → q.0 ≤ now_of calls past

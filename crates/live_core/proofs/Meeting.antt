@@ -48,6 +48,7 @@ unsubmitted calls workers v (h.Cancel j) k event = pick _
     pick : (b : Bool) → is_submit k (cond b (a.Outside j (effect_on (v.fate j))) (a.Error x.NoTask)) ≡ false
     pick true = refl
     pick false = refl
+unsubmitted calls workers v h.Purge k event = refl
 
 -- ---- it may come, as all calls are made
 
@@ -57,6 +58,7 @@ may_come calls made now (h.Clock t) all event = λ accepted n p there at. omega 
 may_come calls made now (h.Start w) all event = tt
 may_come calls made now (h.Finish w ending) all event = tt
 may_come calls made now (h.Cancel k) all event = tt
+may_come calls made now h.Purge all event = tt
 
 -- ---- one event more
 

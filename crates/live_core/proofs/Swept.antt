@@ -42,11 +42,11 @@ noted_dropped m mid slot count free entries slot_room ended_room d noted =
 abbrev pub StaysOrGoes : TableView → TableView → Type 0
 StaysOrGoes old new = (i : ℕ) (x : Seat) → slot_of old.slots i ≡ Some x → x.kept ≡ true → (slot_of new.slots i ≡ Some x) ⊎ (slot_of new.slots i ≡ None)
 
--- where that is so, and one is dropped and leaves its slot, it is so then
-pub goes_dropped : (old m mid new : TableView) (slot : ℕ) → StaysOrGoes old m → Drops m mid slot → new ≡ emptied mid slot → StaysOrGoes old new
-goes_dropped old m mid new slot before d is i x there kept = by_eqb slot i
-    (λ here. inr (now ∙ ap (λ b. cond b None (slot_of mid.slots i)) (eq-eqb slot i here)))
-    (λ other. elim (before i x there kept) [ inl same ↦ inl (left other ∙ same) | inr none ↦ inr (left other ∙ none) ])
+-- what another slot holds then
+left_dropped : (m mid new : TableView) (slot : ℕ) → Drops m mid slot → new ≡ emptied mid slot → (i : ℕ) → slot_of new.slots i ≡ cond (slot == i) None (slot_of m.slots i)
+left_dropped m mid new slot d is i = now ∙ by_eqb slot i
+    (λ here. ap (λ b. cond b None (slot_of mid.slots i)) (eq-eqb slot i here) ∙ sym (ap (λ b. cond b None (slot_of m.slots i)) (eq-eqb slot i here)))
+    (λ other. ap (λ b. cond b None (slot_of mid.slots i)) other ∙ (ap (λ (v : TableView). slot_of v.slots i) d.is ∙ (writes.other i other ∙ sym (ap (λ b. cond b None (slot_of m.slots i)) other))))
   where
     writes : Writes m.slots (slice_set m.slots slot (Some (unkept d.task))) slot (unkept d.task)
     writes = set_writes m.slots slot (unkept d.task) (slot_within m.slots slot d.task d.there)
@@ -57,8 +57,29 @@ goes_dropped old m mid new slot before d is i x there kept = by_eqb slot i
     now : slot_of new.slots i ≡ cond (slot == i) None (slot_of mid.slots i)
     now = ap (λ (v : TableView). slot_of v.slots i) is ∙ at_set mid.slots slot i None None (slot_within mid.slots slot (unkept d.task) held)
 
+-- where that is so, and one is dropped and leaves its slot, it is so then
+pub goes_dropped : (old m mid new : TableView) (slot : ℕ) → StaysOrGoes old m → Drops m mid slot → new ≡ emptied mid slot → StaysOrGoes old new
+goes_dropped old m mid new slot before d is i x there kept = by_eqb slot i
+    (λ here. inr (now ∙ ap (λ b. cond b None (slot_of m.slots i)) (eq-eqb slot i here)))
+    (λ other. elim (before i x there kept) [ inl same ↦ inl (left other ∙ same) | inr none ↦ inr (left other ∙ none) ])
+  where
+    now : slot_of new.slots i ≡ cond (slot == i) None (slot_of m.slots i)
+    now = left_dropped m mid new slot d is i
+
     left : (slot == i) ≡ false → slot_of new.slots i ≡ slot_of m.slots i
-    left other = now ∙ (ap (λ b. cond b None (slot_of mid.slots i)) other ∙ (ap (λ (v : TableView). slot_of v.slots i) d.is ∙ writes.other i other))
+    left other = now ∙ ap (λ b. cond b None (slot_of m.slots i)) other
+
+-- a task that is not kept is where it was
+abbrev pub StaysUnkept : TableView → TableView → Type 0
+StaysUnkept old new = (i : ℕ) (x : Seat) → slot_of old.slots i ≡ Some x → x.kept ≡ false → slot_of new.slots i ≡ Some x
+
+-- where that is so, and a kept one is dropped and leaves its slot, it is so then
+pub others_dropped : (old m mid new : TableView) (slot : ℕ) → StaysUnkept old m → Drops m mid slot → new ≡ emptied mid slot → StaysUnkept old new
+others_dropped old m mid new slot before d is i x there loose = by_eqb slot i
+    (λ here.
+    let one : x ≡ d.task = same_Some x d.task (sym (before i x there loose) ∙ (ap (slot_of m.slots) (sym here) ∙ d.there)) in
+    absurd (false≢true (sym loose ∙ (ap (λ (z : Seat). z.kept) one ∙ d.kept))))
+    (λ other. left_dropped m mid new slot d is i ∙ (ap (λ b. cond b None (slot_of m.slots i)) other ∙ before i x there loose))
 
 -- where none is kept any more, all have left theirs
 pub goes_all : (old m new : TableView) → StaysOrGoes old m → new ≡ m → NoneKept m → (i : ℕ) (x : Seat) → slot_of old.slots i ≡ Some x → x.kept ≡ true → slot_of new.slots i ≡ None

@@ -6,6 +6,7 @@ pub mod Lives
 pub mod Events
 pub mod Cancels
 pub mod Shutting
+pub mod Purges
 pub mod Lined
 pub mod Empties
 pub mod Snapshots

@@ -7,7 +7,7 @@ use Rattle.executor_model.specs.declared.types.Answer.{Answer}
 use Rattle.executor_model.specs.declared.types.Answer.TheVariants as a
 use Rattle.executor_model.specs.declared.types.Refusal.TheVariants as refusal
 use Rattle.executor_model.specs.Answers.{Reply, bare, kind_of}
-use Rattle.executor_model.specs.Counts.{IsWorkerCount}
+use Rattle.executor_model.specs.Counts.{IsLiveWorkerCount}
 use Rattle.sched_time.specs.Times.{longest}
 use Rattle.queue_code.specs.declared.call.CodeCall.TheVariants as c
 use Rattle.queue_code.specs.Calls.{Planned, how_many, IsTimed}
@@ -38,10 +38,10 @@ submit_reply timing (su.Rejected number) = bare (a.Refuse number refusal.Rejecte
 abbrev pub ending : Answer → List TaskRef → Reply
 ending answer ended = record { answer = answer; ends = numbers_of ended }
 
--- why no executor is made for so many workers: they are not 1 to 64, or else memory was refused
+-- why no executor is made for so many workers: they are not 1 to 255, or else memory was refused
 abbrev pub IsMakeError : ℕ → MakeError → Type 0
-IsMakeError workers me.Workers = IsWorkerCount workers → ⊥
-IsMakeError workers me.Memory = IsWorkerCount workers
+IsMakeError workers me.Workers = IsLiveWorkerCount workers → ⊥
+IsMakeError workers me.Memory = IsLiveWorkerCount workers
 
 -- how many tasks have a slot
 abbrev pub tasks_in : List (Option Seat) → ℕ

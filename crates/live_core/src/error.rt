@@ -5,8 +5,8 @@ use thiserror::Error;
 /// Why no executor is made.
 #[derive(Clone, Copy, Debug, PartialEq, Eq, Error)]
 pub enum MakeError {
-    /// The number of workers is not 1 to 64.
-    #[error("the number of workers is not 1 to 64")]
+    /// The number of workers is not 1 to 255.
+    #[error("the number of workers is not 1 to 255")]
     Workers,
     /// The allocator refused the memory.
     #[error("out of memory")]

@@ -12,7 +12,7 @@ use std::alloc::Allocator;
 use task_table::{Begun, Ended, StartError};
 
 impl<A: Allocator> ScheduledExecutor<A> {
-    ghost use Rattle.task_table.specs.Firsts.{IsEarliest, NoneWaits};
+    ghost use Rattle.task_table.specs.Firsts.{IsEarliest, NoneWaits, IsHead, NoneQueued};
     ghost use Rattle.task_table.specs.Runs.{IsClockError, IsFinishError};
     ghost use Rattle.live_core.specs.Lives.{Happens, Stays};
     ghost use Rattle.task_table.specs.Tables.{workers_of};
@@ -118,5 +118,14 @@ impl<A: Allocator> ScheduledExecutor<A> {
         ensures none { IfNone result (NoneWaits self.now.table) }
     {
         self.table.next_due()
+    }
+
+    /// The due moment of the head of the queue, in nanoseconds, which waits for a run or is kept after a cancel: before it no start
+    /// takes a task out of the queue. `None` where none stands there.
+    pub fn head_due(&self) -> Option<u64>
+        ensures head { IfSome result (λ due. IsHead self.now.table due) }
+        ensures none { IfNone result (NoneQueued self.now.table) }
+    {
+        self.table.head_due()
     }
 }

@@ -1,7 +1,7 @@
 //! The executor, and what it tells.
 ghost use Rattle.std.specs.Prelude.{◌≡◌, ℕ, ◌≤◌, List, [], true, false, IfOk, IfErr, OnOk};
 ghost use Rattle.sched_time.specs.Times.{longest};
-ghost use Rattle.executor_model.specs.Counts.{IsWorkerCount};
+ghost use Rattle.executor_model.specs.Counts.{IsLiveWorkerCount};
 
 use crate::error::MakeError;
 use crate::finding::slot_of_task;
@@ -44,11 +44,11 @@ impl<A: Allocator> ScheduledExecutor<A> {
     ghost use Rattle.std.specs.Option.{option_map_or};
     ghost use Rattle.task_table.specs.Seats.{task_in, slot_of, waits};
 
-    /// An executor before anything happened, for 1 to 64 workers, which `alloc` gives its memory.
+    /// An executor before anything happened, for 1 to 255 workers, which `alloc` gives its memory.
     ///
     /// # Errors
     ///
-    /// [`MakeError::Workers`] where there are none, or more than 64; [`MakeError::Memory`] where `alloc` refuses the memory for
+    /// [`MakeError::Workers`] where there are none; [`MakeError::Memory`] where `alloc` refuses the memory for
     /// them.
     pub fn new(alloc: A, workers: u8) -> Result<ScheduledExecutor<A>, MakeError>
     where
@@ -59,10 +59,10 @@ impl<A: Allocator> ScheduledExecutor<A> {
         ensures slots { IfOk result (λ e. e.table.slots ≡ []) }
         ensures earliest { IfOk result (λ e. e.earliest ≡ 0) }
         ensures ended { IfOk result (λ e. e.ended ≡ []) }
-        ensures range { OnOk result (IsWorkerCount workers) }
+        ensures range { OnOk result (IsLiveWorkerCount workers) }
         ensures failed { IfErr result (λ error. IsMakeError workers error) }
     {
-        if workers < 1 || workers > 64 {
+        if workers == 0 {
             return Err(MakeError::Workers);
         }
         let Ok(table) = TaskTable::new(alloc, workers) else {

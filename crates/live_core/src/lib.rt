@@ -2,7 +2,7 @@
 //!
 //! # Usage
 //!
-//! A [`ScheduledExecutor`] is made once, for 1 to 64 workers. It runs nothing itself. The one who holds it makes its calls, each
+//! A [`ScheduledExecutor`] is made once, for 1 to 255 workers. It runs nothing itself. The one who holds it makes its calls, each
 //! with the moment at which it is made, and tells it the events: what the clock shows, that a worker asks for work, that it has
 //! run its task, and that a task is cancelled from outside.
 //!
@@ -39,7 +39,8 @@
 //! as [`shut_down`](ScheduledExecutor::shut_down), `shutdownNow` as [`shut_down_now`](ScheduledExecutor::shut_down_now), and a
 //! future's `cancel` as [`cancel_by_call`](ScheduledExecutor::cancel_by_call). [`ask`](ScheduledExecutor::ask) is a call too, and
 //! tells the queue's size, `getActiveCount`, `isShutdown` and `isTerminated`. The events are [`clock`](ScheduledExecutor::clock),
-//! [`start`](ScheduledExecutor::start), [`finish`](ScheduledExecutor::finish) and [`cancel`](ScheduledExecutor::cancel).
+//! [`start`](ScheduledExecutor::start), [`finish`](ScheduledExecutor::finish) and [`cancel`](ScheduledExecutor::cancel). Neither is
+//! [`purge`](ScheduledExecutor::purge), which has a line in a trace, and stands in no plan.
 //!
 //! A contract sees the executor as a [`LiveView`](../../specs/Lives.antt). The calls need not be known before: for each call and
 //! event its contract says, whatever calls and history led here, that the executor stands where the longer ones lead, and what is
@@ -73,7 +74,8 @@
 //!
 //! A moment is a number of nanoseconds, at most 2^62, and so is each delay and period. No call reads a clock. A call is made at the
 //! moment that is handed in, but not before [`now`](ScheduledExecutor::now), and at least 1 ns after the last accepted clock: so a
-//! clock comes after all calls of its moment, as in a trace. [`next_due`](ScheduledExecutor::next_due) is the moment to wait for.
+//! clock comes after all calls of its moment, as in a trace. [`next_due`](ScheduledExecutor::next_due) is the moment to wait for, or
+//! [`head_due`](ScheduledExecutor::head_due) where cancelled tasks are to leave the queue at their own.
 //!
 //! # Order and ties
 //!
@@ -99,7 +101,7 @@
 //!
 //! With n tasks alive, a submission, a start, a finish or a cancel takes a time in the order of log n, for changes of two heaps and
 //! a search. A submission where the index is full goes over it, from the newest entry on until each task that is alive is found, and
-//! one where all slots are taken over these too, which is constant on average. A start and a sweep take as long as that for each kept
+//! one where all slots are taken over these too, which is constant on average. A start, a sweep and a purge take as long as that for each kept
 //! task that they meet. A shutdown or a policy that sweeps goes over all slots, and sorts what it ends. `ask` goes over the workers.
 //! `images` goes over the index, and `restore` over all slots, each with a change of a heap for each task. All other calls take
 //! constant time, but `reserve`, and `add_lines`, which goes over what was ended.
@@ -123,6 +125,7 @@ mod laws;
 mod lines;
 mod notes;
 mod place;
+mod purging;
 mod releasing;
 mod reserving;
 mod restoring;

@@ -1,9 +1,10 @@
 //! What the calls do that shut the executor down or set a policy: the tasks that they end leave their slots.
-ghost use Rattle.std.specs.Prelude.{◌≡◌, ℕ, ◌≤◌, not, List, length, true, Some, None, vec_capacity};
+ghost use Rattle.std.specs.Prelude.{◌≡◌, ℕ, ◌≤◌, not, List, length, true, false, Some, None, vec_capacity};
 ghost use Rattle.std.specs.List.{All};
 ghost use Rattle.sched_time.specs.Times.{longest};
 ghost use Rattle.queue_code.specs.Calls.{Planned};
 ghost use Rattle.queue_code.specs.declared.call.CodeCall.TheVariants as call;
+ghost use Rattle.executor_model.specs.Answers.{bare};
 ghost use Rattle.executor_model.specs.Histories.{HistoryEntry};
 ghost use Rattle.executor_model.specs.declared.types.Answer.TheVariants as answer;
 ghost use Rattle.executor_model.specs.declared.types.Happening.TheVariants as happening;
@@ -12,7 +13,7 @@ ghost use Rattle.task_table.specs.Endings.{IsOverAt, numbers_of};
 ghost use Rattle.task_table.specs.Firsts.{NoneKept};
 ghost use Rattle.task_table.specs.Seats.{slot_of};
 ghost use Rattle.task_table.specs.declared.seat.Seat as seats;
-ghost use Rattle.task_table.specs.Tables.{workers_of, CallSteps, IsNextCall, Stands, StandsBefore};
+ghost use Rattle.task_table.specs.Tables.{workers_of, CallSteps, EventStepsBefore, IsNextCall, Stands, StandsBefore};
 ghost use Rattle.live_core.specs.Said.{ending};
 ghost use Rattle.live_core.specs.Shutting.{shutdown_answer, AreGone};
 ghost use Rattle.live_core.specs.Lives.{AreAlive};
@@ -133,7 +134,7 @@ pub(crate) fn shut_down_now<A: Allocator>(
     release_each(table, notes, ended);
 }
 
-/// Drops each kept task before a call that sweeps, and empties its slot.
+/// Drops each kept task, before a call that sweeps or of a purge, and empties its slot.
 pub(crate) fn drop_kept<A: Allocator>(table: &mut TaskTable<A>, notes: &mut Notes<A>)
     requires { (count : ℕ) × (ended_room : ℕ)
         × AreNoted table.old.slots count notes.old.free notes.old.entries notes.old.slot_room
@@ -147,6 +148,8 @@ pub(crate) fn drop_kept<A: Allocator>(table: &mut TaskTable<A>, notes: &mut Note
     ensures alive { AreAlive table.old.slots → AreAlive table.new.slots }
     ensures gone { (i : ℕ) (x : seats.Seat) → slot_of table.old.slots i ≡ Some x → x.kept ≡ true
         → slot_of table.new.slots i ≡ None }
+    ensures others { (i : ℕ) (x : seats.Seat) → slot_of table.old.slots i ≡ Some x
+        → x.kept ≡ false → slot_of table.new.slots i ≡ Some x }
     ensures leaves { (i : ℕ) (x : seats.Seat) → slot_of table.new.slots i ≡ Some x
         → slot_of table.old.slots i ≡ Some x }
     ensures size { length table.new.slots ≡ length table.old.slots }
@@ -155,6 +158,7 @@ pub(crate) fn drop_kept<A: Allocator>(table: &mut TaskTable<A>, notes: &mut Note
         → IsNextCall calls past p → sweeps_at table.old.shut p.1 ≡ true
         → StandsBefore table.old calls past happening.Call
         → StandsBefore table.new calls past happening.Call }
+    ensures purges { EventStepsBefore table.old table.new happening.Purge (bare answer.Purge) }
 {
     while let Some(slot) = table.drop_kept() {
         release(table, notes, slot);

@@ -248,6 +248,7 @@ now_still calls p (h.Clock t ∷ past) few = ap (λ n. moment_after n None (h.Cl
 now_still calls p (h.Start w ∷ past) few = now_still calls p past few
 now_still calls p (h.Finish w ending ∷ past) few = now_still calls p past few
 now_still calls p (h.Cancel k ∷ past) few = now_still calls p past few
+now_still calls p (h.Purge ∷ past) few = now_still calls p past few
 
 latest : (now clock : ℕ) → max now (max now clock) ≡ max now clock
 latest now clock = grind arith

@@ -17,7 +17,7 @@ use crate::report::LiveReport;
 use crate::stops::PieceEnd;
 use byte_ends::{Filled, HeldBytes, Sink, Source, write_text};
 use call_journal::Journal;
-use executor_model::Line;
+use executor_model::{Line, MOST_WORKERS};
 use live_core::{MakeError, ScheduledExecutor};
 use sched_engine::{Draft, RunError, StopError};
 use std::alloc::Allocator;
@@ -99,6 +99,10 @@ impl<A: Allocator> Engine<A> {
         ensures counts { IfOk result (λ engine. engine.counts ≡ record { read = 0; written = 0 }) }
         ensures refuses { IfErr result (λ error. RefusesToRun error workers) }
     {
+        // an executor takes more workers than a plan has, and the trace is to be one of a plan
+        if workers > MOST_WORKERS {
+            return Err(OpenError::Workers);
+        }
         let executor = match ScheduledExecutor::new(alloc, workers) {
             Ok(executor) => executor,
             Err(MakeError::Workers) => return Err(OpenError::Workers),

@@ -40,6 +40,7 @@ look_higher moment later count more never (h.Start w) said l n below = tt
 look_higher moment later count more never (h.Finish w ending) said l n below = tt
 look_higher moment later count more never (h.Cancel k) said l n (inl there) = inl (omega (arith, there, n))
 look_higher moment later count more never (h.Cancel k) said l n (inr far) = inr far
+look_higher moment later count more never h.Purge said l n below = tt
 
 all_look_higher : (moment later count more never : ℕ) (past : List HistoryEntry) → moment ≤ later → count ≤ more → AllLookBelow moment count never past → AllLookBelow later more never past
 all_look_higher moment later count more never [] l n below = All-nil (λ (e : HistoryEntry). LooksBelow later more never e.happening e.answer)
@@ -308,6 +309,7 @@ replies_alike calls workers s (h.Clock t) few = refl
 replies_alike calls workers s (h.Start w) few = refl
 replies_alike calls workers s (h.Finish w ending) few = refl
 replies_alike calls workers s (h.Cancel task) few = cancel_alike calls workers s task few
+replies_alike calls workers s h.Purge few = refl
 
 step_alike : (calls : List Planned) (s : State) (y : Happening) (r : Reply) → state_after calls s (plainly y) r ≡ state_after calls s y r
 step_alike calls s h.Call r = refl
@@ -315,6 +317,7 @@ step_alike calls s (h.Clock t) r = refl
 step_alike calls s (h.Start w) r = refl
 step_alike calls s (h.Finish w ending) r = refl
 step_alike calls s (h.Cancel task) r = refl
+step_alike calls s h.Purge r = refl
 
 steps_alike : (calls : List Planned) (workers : ℕ) (s : State) (y : Happening) → task_count calls ≤ unnamed → next calls workers s (plainly y) ≡ next calls workers s y
 steps_alike calls workers s y few = step_alike calls s y (reply_of calls workers s (plainly y)) ∙ ap (state_after calls s y) (replies_alike calls workers s y few)

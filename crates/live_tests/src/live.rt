@@ -4,6 +4,7 @@ mod events;
 mod growths;
 mod lines;
 mod moments;
+mod purges;
 mod restoring;
 mod rooms;
 mod shutting;
@@ -78,8 +79,8 @@ const WORKERS: &[(u8, &str)] = &[
     (0, "workers"),
     (1, "made"),
     (64, "made"),
-    (65, "workers"),
-    (255, "workers"),
+    (65, "made"),
+    (255, "made"),
 ];
 
 /// What is told where an executor is made.
@@ -92,7 +93,7 @@ fn word_of(error: Option<MakeError>) -> &'static str {
 }
 
 #[test]
-fn workers_are_1_to_64(rt: HostRuntime) {
+fn workers_are_1_to_255(rt: HostRuntime) {
     for (workers, wanted) in WORKERS {
         let error = ScheduledExecutor::new(rt.alloc(), *workers).err();
         assert!(rt; word_of(error) == *wanted, "{workers}");

@@ -25,6 +25,7 @@ clocks_of-append (h.Clock t ∷ xs) ys = ap (λ l. t ∷ l) (clocks_of-append xs
 clocks_of-append (h.Start w ∷ xs) ys = clocks_of-append xs ys
 clocks_of-append (h.Finish w e ∷ xs) ys = clocks_of-append xs ys
 clocks_of-append (h.Cancel k ∷ xs) ys = clocks_of-append xs ys
+clocks_of-append (h.Purge ∷ xs) ys = clocks_of-append xs ys
 
 -- the clocks of one happening more
 clocks_on : (happened : List Happening) (i : ℕ) (d happening : Happening) → i < length happened → happening ≡ slice_index_or happened i d → clocks_of (take (i + 1) happened) ≡ clocks_of (take i happened) ++ clocks_of (happening ∷ [])
@@ -59,13 +60,15 @@ run_on happened i d happening shows left moments low next so_far (inl (worker, i
 run_on happened i d happening shows left moments low next so_far (inr (worker, ending, is)) =
     (ap is_taken is, silent_on happened i d happening shows left moments low next so_far (ap (λ (x : Happening). clocks_of (x ∷ [])) is))
 
--- one call or cancel more shows no moment
+-- one call, cancel or purge more shows no moment
 pub other_on : (happened : List Happening) (i : ℕ) (d happening : Happening) (shows : Bool) (left moments : List ℕ) → i < length happened → happening ≡ slice_index_or happened i d
-    → ShowsSoFar shows (clocks_of (take i happened)) left moments → (happening ≡ h.Call) ⊎ ((task : ℕ) × happening ≡ h.Cancel task)
+    → ShowsSoFar shows (clocks_of (take i happened)) left moments → (happening ≡ h.Call) ⊎ (((task : ℕ) × happening ≡ h.Cancel task) ⊎ (happening ≡ h.Purge))
     → (is_taken happening ≡ false) × ShowsSoFar shows (clocks_of (take (i + 1) happened)) left moments
 other_on happened i d happening shows left moments low next so_far (inl is) =
     (ap is_taken is, silent_on happened i d happening shows left moments low next so_far (ap (λ (x : Happening). clocks_of (x ∷ [])) is))
-other_on happened i d happening shows left moments low next so_far (inr (task, is)) =
+other_on happened i d happening shows left moments low next so_far (inr (inl (task, is))) =
+    (ap is_taken is, silent_on happened i d happening shows left moments low next so_far (ap (λ (x : Happening). clocks_of (x ∷ [])) is))
+other_on happened i d happening shows left moments low next so_far (inr (inr is)) =
     (ap is_taken is, silent_on happened i d happening shows left moments low next so_far (ap (λ (x : Happening). clocks_of (x ∷ [])) is))
 
 -- one clock more shows the first moment that is left

@@ -33,7 +33,8 @@ clocks_of [] = []
 clocks_of (h.Clock t ∷ later) = t ∷ clocks_of later
 clocks_of (_ ∷ later) = clocks_of later
 
--- a happening is an event that a pool takes: the calls of the plan are none, and a cancel from outside is that of a handle
+-- a happening is an event that a pool takes: the calls of the plan are none, a cancel from outside is that of a handle, and a purge
+-- is no event
 abbrev pub is_taken : Happening → Bool
 is_taken (h.Clock t) = true
 is_taken (h.Start worker) = true
@@ -53,11 +54,12 @@ abbrev pub IsIdleAfter : List Planned → ℕ → List HistoryEntry → Type 0
 IsIdleAfter calls workers past = (worker : ℕ) → (after calls workers (happenings past)).workers worker ≡ None
 
 -- what happens is by a pool of so many workers to which no handle is out: a start or a finish is by one of them, and nothing is a
--- cancel from outside
+-- cancel from outside or a purge
 abbrev pub IsByPool : ℕ → Happening → Type 0
 IsByPool workers (h.Start worker) = worker < workers
 IsByPool workers (h.Finish worker ending) = worker < workers
 IsByPool workers (h.Cancel task) = ⊥
+IsByPool workers h.Purge = ⊥
 IsByPool workers _ = Unit {0}
 
 -- some moments are the first of these

@@ -21,7 +21,7 @@ pub struct Told {
     pub shows_first: bool,
     /// Whether they show all of them.
     pub shows_all: bool,
-    /// Whether each start and each finish is by one of the workers, and nothing is a cancel from outside.
+    /// Whether each start and each finish is by one of the workers, and nothing is a cancel from outside or a purge.
     pub by_pool: bool,
 }
 
@@ -52,7 +52,7 @@ pub fn look_back(happened: &[KeptHappening], moments: &[u64], workers: u8) -> To
                 }
             }
             Happening::Start(_) | Happening::Finish(..) => events += 1,
-            Happening::Call | Happening::Cancel(_) => {}
+            Happening::Call | Happening::Cancel(_) | Happening::Purge => {}
         }
     }
     Told {
@@ -75,14 +75,14 @@ fn left_behind(moment: u64, moments: &[u64]) -> Option<&[u64]>
     Some(rest)
 }
 
-/// Whether what happens is by a pool of so many workers to which no handle is out: no cancel from outside is.
+/// Whether what happens is by a pool of so many workers to which no handle is out: no cancel from outside is, and no purge.
 fn is_by_pool(happening: Happening, workers: u8) -> bool
     ensures { IsTrue result ↔ IsByPool workers happening }
 {
     match happening {
         Happening::Start(worker) | Happening::Finish(worker, _) => worker < workers,
         Happening::Call | Happening::Clock(_) => true,
-        Happening::Cancel(_) => false,
+        Happening::Cancel(_) | Happening::Purge => false,
     }
 }
 

@@ -30,7 +30,7 @@
 //! start what is due, until nothing is. The value of a run is its number. At last the text of all lines is written, in one pass.
 //!
 //! Before anything is written the ended book is looked at: its clocks are those of the input, in order, its starts and finishes are
-//! by the pool's workers, nothing is a cancel from outside, nothing is due in it, no run is under way, and it has no more events than
+//! by the pool's workers, nothing is a cancel from outside or a purge, nothing is due in it, no run is under way, and it has no more events than
 //! the limit. At the limit it has exactly as many, and its clocks are the first of the input. A book that is not so is told as
 //! [`RunError::Lost`](sched_engine::RunError::Lost). So what is promised of a run that ends well rests on the book alone, and on
 //! nothing that is said of threads.

@@ -38,6 +38,7 @@ reply_few calls workers v (h.Clock moment) = omega arith
 reply_few calls workers v (h.Start w) = omega arith
 reply_few calls workers v (h.Finish w ending) = omega arith
 reply_few calls workers v (h.Cancel k) = omega arith
+reply_few calls workers v h.Purge = omega arith
 
 -- a happening more, and what it ends
 ends_more : (calls : List Planned) (happening : Happening) (past : List Happening) (n : ℕ) → task_count calls ≤ 65536 → n ≤ cond (is_call happening) (task_count calls) 0 → n + made past * 65536 ≤ made (happening ∷ past) * 65536
@@ -46,6 +47,7 @@ ends_more calls (h.Clock moment) past n few l = omega (arith, l)
 ends_more calls (h.Start w) past n few l = omega (arith, l)
 ends_more calls (h.Finish w ending) past n few l = omega (arith, l)
 ends_more calls (h.Cancel k) past n few l = omega (arith, l)
+ends_more calls h.Purge past n few l = omega (arith, l)
 
 -- a history has a line for each happening, and for each call at most one for each task
 pub lines_by_calls : (calls : List Planned) (workers : ℕ) (past : List HistoryEntry) → AreFew calls → IsHistoryOf calls workers past → length (lines_of calls past) ≤ length past + made (happenings past) * 65536

@@ -1,12 +1,14 @@
 -- Told: how the end of what a command line asks for is told, and what of it stands on standard error.
 -- All of it is this project's rule.
-use Rattle.std.specs.Prelude.{ℕ, ◌++◌, Bool, List, [], Option, None, Some, Result, Ok, Err, flat_map}
+use Rattle.std.specs.Prelude.{ℕ, ◌++◌, Bool, true, false, List, [], Option, None, Some, Result, Ok, Err, flat_map}
 use Rattle.std.specs.Io.KnownBytes.{Keeps}
 use Rattle.byte_ends.specs.Ends.{CountsTries, NoneFailed, WritesText}
 use Rattle.command_work.specs.Errors.{status_of}
 use Rattle.command_work.specs.RefusalTexts.{text_of}
 use Rattle.command_work.specs.Refusals.{IsOneLine}
 use Rattle.command_work.specs.declared.error.ProgramError.{ProgramError}
+use Rattle.command_work.specs.declared.error.ProgramError.TheVariants as p
+use Rattle.sched_engine.specs.declared.report.RunError.TheVariants as r
 use Rattle.command_work.specs.declared.refusal.Refusal.{Refusal}
 use Rattle.sched_program.specs.Lines.{error_line}
 use Rattle.sched_program.specs.declared.answer.Answer.{Answer}
@@ -28,6 +30,15 @@ end_of (Err fault) = Err fault
 abbrev pub hint_text : Option Refusal → List ℕ
 hint_text None = []
 hint_text (Some hint) = text_of hint
+
+-- behind such an answer's line a hint may stand: of a file that was not opened, created, read or written, and of a run whose events
+-- are more than its limit
+abbrev pub may_hint : Result Answer ProgramError → Bool
+may_hint (Err p.PlanFile) = true
+may_hint (Err p.PlanUnwritten) = true
+may_hint (Err p.TraceFile) = true
+may_hint (Err (p.Run r.Full)) = true
+may_hint _ = false
 
 -- this text was told on standard error, or a front of it where the last try to write was bad
 abbrev pub IsTextTold : List ℕ → Option (List ℕ) → Option (List ℕ) → ℕ → ℕ → ℕ → ℕ → Type 0

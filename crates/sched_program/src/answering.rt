@@ -1,12 +1,12 @@
 //! The program: its work over the command line, the files, standard input and standard output of the system.
 
-ghost use Rattle.std.specs.Prelude.{◌≡◌, ℕ, ◌≤◌, ◌↔◌, ◌⊎◌, IsTrue, Option, Result, map, string_bytes, IfErr, IfOk};
+ghost use Rattle.std.specs.Prelude.{◌≡◌, ℕ, ◌≤◌, ◌↔◌, ◌⊎◌, IsTrue, IsSome, Option, Result, map, string_bytes, IfErr, IfOk};
 ghost use Rattle.std.specs.Process.{exit_status};
 ghost use Rattle.clap.specs.Words.{kind_of};
 ghost use Rattle.command_work.specs.Errors.{IsOrMemory};
 ghost use Rattle.sched_program.specs.Ends.{IsRefusal, IsShown, IsTaken};
 ghost use Rattle.sched_program.specs.Openings.{NamesEvents};
-ghost use Rattle.sched_program.specs.Told.{IsTold, end_of, exit_status_of};
+ghost use Rattle.sched_program.specs.Told.{IsTold, end_of, exit_status_of, may_hint};
 ghost use Rattle.command_work.specs.declared.error.ProgramError.TheVariants.{Arguments};
 
 use crate::answer::{Answer, in_status};
@@ -39,6 +39,7 @@ where
     ensures status { exit_status result ≤ 2 }
     ensures told { (answer : Result Answer ProgramError) × (hint : Option Refusal)
         × (exit_status result ≡ exit_status_of answer)
+        × (IsSome hint → IsTrue (may_hint answer))
         × IsTold answer hint (F.contents faults.old) (F.contents faults.new) (F.failed faults.old)
         (F.fruitless faults.old) (F.failed faults.new) (F.fruitless faults.new) }
 {
@@ -49,7 +50,9 @@ where
 }
 
 /// The hint that stands behind the line of an error: of a file that was not read or not written, or of a limit.
-fn hint_of(answer: &Result<Answer, ProgramError>, hints: &Hints) -> Option<Refusal> {
+fn hint_of(answer: &Result<Answer, ProgramError>, hints: &Hints) -> Option<Refusal>
+    ensures { IsSome result → IsTrue (may_hint answer.now) }
+{
     match answer {
         Err(
             ProgramError::PlanFile

@@ -4,23 +4,8 @@ ghost use Rattle.std.specs.Prelude.{◌<◌, length};
 use crate::Row;
 
 const ALL: &[Row] = &[
-    // A cancelled task stays in the queue until a start meets it.
-    Row {
-        name: "a kept task",
-        plan: "version = 1\nblock = [{ call = [\
-               { op = 'schedule', name = 'a', delay = 10 },\
-               { at = 2, op = 'cancel', name = 'a' },\
-               { at = 3, op = 'ask' },\
-               { at = 20, op = 'ask' }] }]",
-        workers: 1,
-        events: "clock 15\nstart 0\nclock 20\n",
-        trace: "0 submit 0 schedule due 10\n\
-                2 cancel 0 yes\n\
-                3 ask queue 1 running 0 shutdown no terminated no\n\
-                15 clock\n15 start 0 idle\n\
-                20 ask queue 0 running 0 shutdown no terminated no\n20 clock\n",
-    },
-    // The same where the remove policy is true.
+    A_KEPT_TASK,
+    // The same as the first one, where the remove policy is true.
     Row {
         name: "a removed task",
         plan: "version = 1\nblock = [{ call = [\
@@ -172,4 +157,21 @@ pub const A_START_MEETS_THE_KEPT_TASKS_BEFORE_ITS_OWN: Row = Row {
             1 cancel 0 yes\n\
             7 clock\n7 start 0 task 1 run 0 due 6\n\
             9 ask queue 0 running 1 shutdown no terminated no\n9 clock\n",
+};
+
+/// A cancelled task stays in the queue until a start meets it.
+pub const A_KEPT_TASK: Row = Row {
+    name: "a kept task",
+    plan: "version = 1\nblock = [{ call = [\
+           { op = 'schedule', name = 'a', delay = 10 },\
+           { at = 2, op = 'cancel', name = 'a' },\
+           { at = 3, op = 'ask' },\
+           { at = 20, op = 'ask' }] }]",
+    workers: 1,
+    events: "clock 15\nstart 0\nclock 20\n",
+    trace: "0 submit 0 schedule due 10\n\
+            2 cancel 0 yes\n\
+            3 ask queue 1 running 0 shutdown no terminated no\n\
+            15 clock\n15 start 0 idle\n\
+            20 ask queue 0 running 0 shutdown no terminated no\n20 clock\n",
 };

@@ -78,6 +78,7 @@ next_is_other calls s n (h.Clock t) orderly above = tt
 next_is_other calls s n (h.Start w) orderly above = tt
 next_is_other calls s n (h.Finish w ending) orderly above = tt
 next_is_other calls s n (h.Cancel k) orderly above = tt
+next_is_other calls s n h.Purge orderly above = tt
 
 count_later : (calls : List Planned) (count : ℕ) (y : Happening) → task_count (take count calls) ≤ task_count (take (made_after count y) calls)
 count_later calls count y = by (is_call y)

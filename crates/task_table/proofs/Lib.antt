@@ -16,6 +16,7 @@ pub mod Ascending
 pub mod Sweeps
 pub mod Policies
 pub mod SweepDrops
+pub mod Purges
 pub mod Counting
 pub mod Asks
 pub mod Clocks

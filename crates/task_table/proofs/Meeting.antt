@@ -1,8 +1,8 @@
 -- Which kept tasks a start meets, and what becomes of one that is dropped.
 use Rattle.std.proofs.Common.{◌≡◌, ℕ, ◌+◌, ◌-◌, ◌^◌, ◌<◌, ◌≤◌, nat_le, ◌&&◌, ◌||◌, zero, suc, Bool, true, false, cond, inl, inr, List, [], ◌∷◌, Option, Some, None, refl, sym, ap, ◌∙◌, arith, subst}
-use Rattle.std.specs.Prelude.{◌↔◌, not, IfSome, IfNone, IsTrue}
+use Rattle.std.specs.Prelude.{◌↔◌, not, min, IfSome, IfNone, IsTrue}
 use Rattle.std.proofs.Math.ListN.{set}
-use Rattle.std.proofs.lemmas.Bool.{false≢true, or_right, or_cases, leb-true, leb-false}
+use Rattle.std.proofs.lemmas.Bool.{false≢true, or_left, or_right, or_cases, leb-true, leb-false}
 use Rattle.std.proofs.lemmas.Bool.Decides.{nat_tests}
 use Rattle.std.proofs.lemmas.Option.{none-some, same_Some}
 use Rattle.delay_queue.specs.Queues.{comes_before}
@@ -10,14 +10,14 @@ use Rattle.queue_code.specs.Calls.{how_many}
 use Rattle.task_table.specs.declared.seat.Seat.{Seat}
 use Rattle.task_table.specs.Seats.{task_in, slot_of, waits, is_alive, is_waiting_in, is_running_in}
 use Rattle.task_table.specs.Tables.{TableView}
-use Rattle.task_table.specs.Firsts.{NoneDue, FirstIs, MeetsNone, NoneMet, NoneKept, holds_kept, kept_in, IsEarliest, NoneWaits, IsRipe}
+use Rattle.task_table.specs.Firsts.{NoneDue, FirstIs, MeetsNone, NoneMet, NoneKept, holds_kept, kept_in, IsEarliest, NoneWaits, IsRipe, IsHead, NoneQueued}
 use Rattle.task_table.specs.Changes.{put, unkept}
 use Rattle.task_table.specs.Runs.{Drops, IsFull}
 use Rattle.task_table.specs.Formed.{IsFormed, IsSeated}
 use Rattle.task_table.specs.Orders.{IsLeastKey}
 use Rattle.task_table.specs.own.Queues.{IsTable}
 use Rattle.task_table.specs.own.Heads.{HeadsQueue, HeadsKept, IsMetBy}
-use Rattle.task_table.proofs.Heads.{waits_at, stays_at, entry_at, first_due, least_not_due, none_due, least_unmet, none_kept}
+use Rattle.task_table.proofs.Heads.{waits_at, stays_at, entry_at, kept_at, first_due, least_not_due, none_due, least_unmet, none_kept}
 
 -- ---- the least entries
 
@@ -72,6 +72,7 @@ heads_kept m entries kept slot due number t is =
       dues = at.dues;
       named = at.named;
       unmet = λ first out. least_unmet m entries kept slot due number at.x first t.formed t.queues is at.there out;
+      least = λ i y there held. no_earlier due number y.due y.number (is.least i y.due y.number (kept_at m entries kept i y t.queues there held));
     }
 
 -- where there is none, no task is kept
@@ -196,3 +197,59 @@ ripe_where m slot due number now none head same = by (nat_le due now) refl
     by : (b : Bool) → nat_le due now ≡ b → IsTrue b ↔ IsRipe m
     by true q = (λ _. ripe_kept m slot due number head (omega (arith, same, leb-true due now q)), λ _. refl)
     by false q = (λ no. absurd (false≢true no), λ ripe. absurd (unripe_kept m slot due number none head (omega (arith, same, leb-false due now q)) ripe))
+
+-- ---- the head of the queue
+
+-- where no task waits and none is kept, none stands in the queue
+pub none_queued : (m : TableView) → NoneWaits m → NoneKept m → NoneQueued m
+none_queued m idle none i y there = λ j. idle i y there j || none i y there j
+
+-- the first task that waits is the head where none is kept
+pub head_waits : (m : TableView) (due : ℕ) → IsEarliest m due → NoneKept m → IsHead m due
+head_waits m due first none = record {
+  slot = first.slot;
+  task = first.task;
+  there = first.there;
+  queued = or_left (waits (task_in first.task)) first.task.kept first.waiting;
+  is = first.is;
+  least = λ i y there queued. elim (or_cases (waits (task_in y)) y.kept queued) [ inl waiting ↦ first.least i y there waiting | inr held ↦ absurd (false≢true (sym (none i y there) ∙ held)) ];
+}
+
+-- the first kept task is where none waits
+pub head_stays : (m : TableView) (slot due number : ℕ) → NoneWaits m → HeadsKept m slot due number → IsHead m due
+head_stays m slot due number idle head = record {
+  slot = slot;
+  task = head.task;
+  there = head.there;
+  queued = or_right (waits (task_in head.task)) head.task.kept head.kept;
+  is = head.dues;
+  least = λ i y there queued. elim (or_cases (waits (task_in y)) y.kept queued) [ inl waiting ↦ absurd (false≢true (sym (idle i y there) ∙ waiting)) | inr held ↦ head.least i y there held ];
+}
+
+-- and else it is the one of both that is due first
+pub head_either : (m : TableView) (first slot due number : ℕ) → IsEarliest m first → HeadsKept m slot due number → IsHead m (min first due)
+head_either m first slot due number e head = by (nat_le first due) refl
+  where
+    below : (i : ℕ) (y : Seat) → slot_of m.slots i ≡ Some y → (waits (task_in y) || y.kept) ≡ true → min first due ≤ y.due
+    below i y there queued = elim (or_cases (waits (task_in y)) y.kept queued) [
+      | inl waiting ↦ let le = e.least i y there waiting in grind (arith, nat_tests, le)
+      | inr held ↦ let le = head.least i y there held in grind (arith, nat_tests, le)
+    ]
+
+    by : (b : Bool) → nat_le first due ≡ b → IsHead m (min first due)
+    by true q = record {
+      slot = e.slot;
+      task = e.task;
+      there = e.there;
+      queued = or_left (waits (task_in e.task)) e.task.kept e.waiting;
+      is = let least : first ≡ min first due = grind (arith, nat_tests, q) in e.is ∙ least;
+      least = below;
+    }
+    by false q = record {
+      slot = slot;
+      task = head.task;
+      there = head.there;
+      queued = or_right (waits (task_in head.task)) head.task.kept head.kept;
+      is = let least : due ≡ min first due = grind (arith, nat_tests, q) in head.dues ∙ least;
+      least = below;
+    }

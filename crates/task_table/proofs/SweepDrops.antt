@@ -47,7 +47,7 @@ work_unkept old new slot x (Some i) work there writes q = by_eqb slot i
     (λ apart. (q.0, writes.other i apart ∙ q.1, q.2))
 
 -- where a table shows a state in which some tasks are kept, and drops one of them, it shows the state in which that one is not
-shows_unkept : (m : TableView) (s : State) (kept : ℕ → Bool) (slot : ℕ) (x : Seat) → IsFormed m → slot_of m.slots slot ≡ Some x → Shows m (keeping s kept) → Shows (put m slot (unkept x)) (keeping s (λ k. kept k && not (x.number == k)))
+pub shows_unkept : (m : TableView) (s : State) (kept : ℕ → Bool) (slot : ℕ) (x : Seat) → IsFormed m → slot_of m.slots slot ≡ Some x → Shows m (keeping s kept) → Shows (put m slot (unkept x)) (keeping s (λ k. kept k && not (x.number == k)))
 shows_unkept m s kept slot x formed there shows =
     let new = slice_set m.slots slot (Some (unkept x)) in
     let writes : Writes m.slots new slot (unkept x) = set_writes m.slots slot (unkept x) (slot_within m.slots slot x there) in

@@ -154,6 +154,7 @@ reply_passes calls workers s n (h.Cancel k) there other = pick _
     pick : (b : Bool) → Passes n (cond b (a.Outside k (effect_on ((view_of_state calls s).fate k))) (a.Error x.NoTask))
     pick true = no_effect calls s n k there
     pick false = tt
+reply_passes calls workers s n h.Purge there other = tt
 
 -- a number that does not pass a test is none of those that do
 not_filtered : (test : ℕ → Bool) (n : ℕ) (ks : List ℕ) → test n ≡ false → is_end n (filter test ks) ≡ false
@@ -181,6 +182,7 @@ ends_none calls workers s n (h.Clock t) there = refl
 ends_none calls workers s n (h.Start w) there = refl
 ends_none calls workers s n (h.Finish w ending) there = refl
 ends_none calls workers s n (h.Cancel k) there = refl
+ends_none calls workers s n h.Purge there = refl
 
 -- ---- a step
 

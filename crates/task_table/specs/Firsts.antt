@@ -90,3 +90,16 @@ pub record IsEarliest (m : TableView) (due : ℕ) : Type 0 where
 -- no task waits
 abbrev pub NoneWaits : TableView → Type 0
 NoneWaits m = (i : ℕ) (y : Seat) → slot_of m.slots i ≡ Some y → waits (task_in y) ≡ false
+
+-- a task that stands in the queue, as it waits or is kept, is due at this moment, and none that is due earlier
+pub record IsHead (m : TableView) (due : ℕ) : Type 0 where
+  pub slot : ℕ
+  pub task : Seat
+  pub there : slot_of m.slots slot ≡ Some task
+  pub queued : stands_in_queue (Some task) ≡ true
+  pub is : task.due ≡ due
+  pub least : (i : ℕ) (y : Seat) → slot_of m.slots i ≡ Some y → stands_in_queue (Some y) ≡ true → due ≤ y.due
+
+-- no task stands in the queue
+abbrev pub NoneQueued : TableView → Type 0
+NoneQueued m = (i : ℕ) (y : Seat) → slot_of m.slots i ≡ Some y → stands_in_queue (Some y) ≡ false

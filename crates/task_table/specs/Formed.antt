@@ -4,7 +4,7 @@ use Rattle.std.specs.Prelude.{◌≡◌, ◌≢◌, ℕ, ◌+◌, ◌^◌, ◌<�
 use Rattle.sched_time.specs.Times.{longest}
 use Rattle.queue_code.specs.Calls.{IsTimed}
 use Rattle.executor_model.specs.declared.task.Stage.TheVariants as ph
-use Rattle.executor_model.specs.Counts.{most_workers}
+use Rattle.executor_model.specs.Counts.{most_live_workers}
 use Rattle.task_table.specs.declared.seat.Seat.{Seat}
 use Rattle.task_table.specs.Seats.{slot_of}
 use Rattle.task_table.specs.Tables.{TableView, workers_of}
@@ -25,7 +25,7 @@ pub record IsSeated (moment : ℕ) (x : Seat) : Type 0 where
 pub record IsFormed (m : TableView) : Type 0 where
   pub moment : m.moment ≤ longest
   pub some : 0 < workers_of m
-  pub few : workers_of m ≤ most_workers
+  pub few : workers_of m ≤ most_live_workers
   pub slots : length m.slots < 2 ^ 32
   pub seated : (i : ℕ) (x : Seat) → slot_of m.slots i ≡ Some x → IsSeated m.moment x
   pub apart : (i j : ℕ) (x y : Seat) → slot_of m.slots i ≡ Some x → slot_of m.slots j ≡ Some y → x.number ≡ y.number → i ≡ j

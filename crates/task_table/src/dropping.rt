@@ -2,6 +2,8 @@
 ghost use Rattle.std.specs.Prelude.{◌≡◌, ℕ, ◌<◌, true, List, Some, IfSome, IfNone};
 ghost use Rattle.queue_code.specs.Calls.{Planned};
 ghost use Rattle.executor_model.specs.Histories.{HistoryEntry};
+ghost use Rattle.executor_model.specs.Answers.{bare};
+ghost use Rattle.executor_model.specs.declared.types.Answer.TheVariants as answer;
 ghost use Rattle.executor_model.specs.declared.types.Happening.TheVariants as happening;
 ghost use Rattle.task_table.specs.Changes as changes;
 ghost use Rattle.task_table.specs.declared.seat.Seat as seats;
@@ -13,7 +15,7 @@ use crate::table::Table;
 use std::alloc::Allocator;
 
 impl<S: Slots, Q: TaskQueue, A: Allocator> Table<S, Q, A> {
-    ghost use Rattle.task_table.specs.Tables.{StandsBefore, IsNextCall};
+    ghost use Rattle.task_table.specs.Tables.{StandsBefore, EventStepsBefore, IsNextCall};
     ghost use Rattle.task_table.specs.Seats.{slot_of};
     ghost use Rattle.task_table.specs.Firsts.{IsMetAt, NoneMet, NoneKept};
     ghost use Rattle.task_table.specs.Ends.{sweeps_at};
@@ -45,8 +47,8 @@ impl<S: Slots, Q: TaskQueue, A: Allocator> Table<S, Q, A> {
         None
     }
 
-    /// Drops a kept task before a call that sweeps, and answers its slot: of its task nothing comes any more. `None` says that
-    /// none is kept; the table is then as it was.
+    /// Drops a kept task, before a call that sweeps, or of a purge, and answers its slot: of its task nothing comes any more. `None`
+    /// says that none is kept; the table is then as it was, and a purge is made.
     ///
     /// Each call that drops one makes the number of kept tasks smaller, so that a loop of such calls ends.
     pub fn drop_kept(&mut self) -> Option<u32>
@@ -56,7 +58,13 @@ impl<S: Slots, Q: TaskQueue, A: Allocator> Table<S, Q, A> {
             → IsNextCall calls past p → sweeps_at self.old.shut p.1 ≡ true
             → StandsBefore self.old calls past happening.Call
             → StandsBefore self.new calls past happening.Call) }
+        ensures purges { IfSome result
+            (λ _. (calls : List Planned) (past : List HistoryEntry)
+            → StandsBefore self.old calls past happening.Purge
+            → StandsBefore self.new calls past happening.Purge) }
         ensures none { IfNone result ((self.new ≡ self.old) × NoneKept self.old) }
+        ensures purged { IfNone result
+            (EventStepsBefore self.old self.new happening.Purge (bare answer.Purge)) }
     {
         let entry = self.first_kept()?;
         self.drop_at(entry.slot);

@@ -9,7 +9,7 @@ use thiserror::Error;
 pub struct Frame {
     /// In nanoseconds, at most 2^62.
     pub moment: u64,
-    /// 1 to 64.
+    /// 1 to 255.
     pub workers: u8,
     pub slots: u32,
     pub policies: Policies,

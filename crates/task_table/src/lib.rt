@@ -2,7 +2,7 @@
 //!
 //! # Usage
 //!
-//! A [`TaskTable`] keeps the tasks of which something may come, and the work of 1 to 64 workers. Each task has a number, which
+//! A [`TaskTable`] keeps the tasks of which something may come, and the work of 1 to 255 workers. Each task has a number, which
 //! grows from submission to submission, and a slot, which may hold another task once it is released. The one above tells the
 //! table each call and each event, at its moment, and the table tells what becomes of the tasks.
 //!
@@ -13,6 +13,7 @@
 //! table.clock(5)?;
 //! assert_eq!(rt; table.clock(4), Err(EventError::Backward));
 //! assert_eq!(rt; (table.now(), table.next_due()), (5, None)); // no task waits
+//! assert_eq!(rt; table.head_due(), None); // and none is kept
 //! ```
 //!
 //! A task comes into an empty slot by [`admit`](Table::admit), is run from a [`start`](Table::start) to a
@@ -36,8 +37,8 @@
 //!
 //! Of the tasks that wait, a start gets the one that was due first, and of those due at one moment the one that was submitted
 //! first. A task that is cancelled while it waits is kept in the queue, unless the policy says that cancelled tasks leave it:
-//! no start gets it, but it counts for [`ask`](Table::ask) until a start meets it, or a call sweeps. Before a start the one
-//! above drops those that it meets, by [`drop_met`](Table::drop_met), and before a call that sweeps all, by
+//! no start gets it, but it counts for [`ask`](Table::ask) until a start meets it, a call sweeps, or a purge comes. Before a start
+//! the one above drops those that it meets, by [`drop_met`](Table::drop_met), and before a call that sweeps, or as a purge, all, by
 //! [`drop_kept`](Table::drop_kept), each until the answer is `None`; so it learns the slot of each, and can release it. The
 //! calls that sweep put the tasks that they end into a list, ascending by number.
 //!

@@ -2,7 +2,7 @@
 ghost use Rattle.std.specs.Prelude.{◌≡◌, ◌↔◌, ℕ, [], ◌<◌, ◌≤◌, true, false, length, Some, None, IsTrue, IfOk, IsErrOf};
 ghost use Rattle.sched_time.specs.Times.{longest};
 ghost use Rattle.queue_code.specs.Calls.{IsTimed};
-ghost use Rattle.executor_model.specs.Counts.{IsWorkerCount};
+ghost use Rattle.executor_model.specs.Counts.{IsLiveWorkerCount};
 ghost use Rattle.task_table.specs.Formed.{IsSeated};
 ghost use Rattle.task_table.specs.Images as images;
 ghost use Rattle.task_table.specs.Orders.{with_key, keys};
@@ -43,7 +43,7 @@ impl<A: Allocator> TaskTable<A> {
         ensures unsound { IsErrOf result RestoreError.Unsound
             → ((m : TableView) → IsFormed m → images.IsWritten m frame written.now → ⊥) }
     {
-        if frame.workers < 1 || frame.workers > 64 || frame.moment > LONGEST {
+        if frame.workers == 0 || frame.moment > LONGEST {
             return Err(RestoreError::Unsound);
         }
         if !are_ascending(written) {
@@ -62,7 +62,7 @@ impl<A: Allocator> TaskTable<A> {
     fn blank(alloc: A, frame: Frame) -> Result<TaskTable<A>, AllocError>
     where
         A: Copy,
-        requires workers { IsWorkerCount frame.workers }
+        requires workers { IsLiveWorkerCount frame.workers }
         requires moment { frame.moment ≤ longest }
         ensures frame { IfOk result (λ t. images.HasFrame t frame) }
         ensures empty { IfOk result (λ t. steps.IsPart t [] 0) }

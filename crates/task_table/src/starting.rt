@@ -18,7 +18,7 @@ use std::alloc::Allocator;
 impl<S: Slots, Q: TaskQueue, A: Allocator> Table<S, Q, A> {
     ghost use Rattle.task_table.specs.Tables.{EventSteps};
     ghost use Rattle.task_table.specs.Seats.{slot_of};
-    ghost use Rattle.task_table.specs.Firsts.{IsFirstDue, IsFirst, NoneDue, NoneMet, IsEarliest, NoneWaits};
+    ghost use Rattle.task_table.specs.Firsts.{IsFirstDue, IsFirst, NoneDue, NoneMet, IsEarliest, NoneWaits, IsHead, NoneQueued};
     ghost use Rattle.task_table.specs.Runs.{IsFree, IsFull, MayRun, IsStartError, Starts, FailsStart, FailsClock};
     ghost use Rattle.task_table.specs.Formed.{IsFormed};
     ghost use Rattle.task_table.specs.own.Heads.{HeadsQueue};
@@ -56,6 +56,21 @@ impl<S: Slots, Q: TaskQueue, A: Allocator> Table<S, Q, A> {
     {
         let least = self.queue.first()?;
         Some(least.due)
+    }
+
+    /// The due moment of the head of the queue, which waits or is kept, in nanoseconds: before it no start takes a task out of the
+    /// queue. `None` where none stands there.
+    pub fn head_due(&self) -> Option<u64>
+        ensures head { IfSome result (λ due. IsHead self.now due) }
+        ensures none { IfNone result (NoneQueued self.now) }
+    {
+        let Some(kept) = self.first_kept() else {
+            return self.next_due();
+        };
+        match self.next_due() {
+            Some(due) => Some(due.min(kept.due)),
+            None => Some(kept.due),
+        }
     }
 
     /// The first task that waits and is due: the one of which a start by a worker without work begins a run. `None` where none is.

@@ -4,7 +4,7 @@ ghost use Rattle.queue_code.specs.Calls.{Planned, IsOrderly, IsTimed};
 ghost use Rattle.queue_code.specs.declared.call.CodeCall.TheVariants as call;
 ghost use Rattle.sched_time.specs.Times.{longest};
 ghost use Rattle.sched_time.specs.declared.timing.Timing as timings;
-ghost use Rattle.executor_model.specs.Counts.{IsWorkerCount};
+ghost use Rattle.executor_model.specs.Counts.{IsLiveWorkerCount};
 ghost use Rattle.executor_model.specs.Answers.{bare, kind_of};
 ghost use Rattle.executor_model.specs.Histories.{HistoryEntry};
 ghost use Rattle.executor_model.specs.declared.types.Answer.TheVariants as answer;
@@ -60,7 +60,7 @@ impl<A: Allocator> TaskTable<A> {
     ghost use Rattle.task_table.specs.Seats.{slot_of, task_in, is_alive};
     ghost use Rattle.task_table.specs.Changes.{emptied, grown};
 
-    /// A table of no slots before anything happened, for 1 to 64 workers.
+    /// A table of no slots before anything happened, for 1 to 255 workers.
     ///
     /// # Errors
     ///
@@ -68,7 +68,7 @@ impl<A: Allocator> TaskTable<A> {
     pub fn new(alloc: A, workers: u8) -> Result<TaskTable<A>, AllocError>
     where
         A: Copy,
-        requires { IsWorkerCount workers }
+        requires { IsLiveWorkerCount workers }
         ensures workers { IfOk result (λ table. workers_of table ≡ workers) }
         ensures empty { IfOk result (λ table. table.slots ≡ []) }
         ensures stands { IfOk result (λ table. Stands table [] []) }
@@ -140,7 +140,7 @@ impl<S: Slots, Q: TaskQueue, A: Allocator> Table<S, Q, A> {
     ghost use Rattle.task_table.specs.Changes.{admitted, at_moment};
 
     /// A table of these slots, fewer than 2^32 and all of them empty, before anything happened. It has as many workers as `work`
-    /// has entries, 1 to 64, of which none has work.
+    /// has entries, 1 to 255, of which none has work.
     ///
     /// `queue` is for the tasks that wait, and `kept` for those that are kept: both are empty, and have room for each slot.
     pub fn with(slots: S, queue: Q, kept: Q, work: Vec<Option<u32>, A>) -> Table<S, Q, A>
@@ -150,7 +150,7 @@ impl<S: Slots, Q: TaskQueue, A: Allocator> Table<S, Q, A> {
             × (length (S.seats slots) ≤ Q.room queue) }
         requires kept { ((i : ℕ) → Q.keys kept i ≡ None)
             × (length (S.seats slots) ≤ Q.room kept) }
-        requires workers { (workers : ℕ) × IsWorkerCount workers
+        requires workers { (workers : ℕ) × IsLiveWorkerCount workers
             × (work.items ≡ replicate workers None) }
         ensures slots { result.slots ≡ S.seats slots }
         ensures work { result.work ≡ work.items }

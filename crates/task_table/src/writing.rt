@@ -66,7 +66,7 @@ fn is_running(phase: Stage) -> bool
 
 /// The first worker that has a slot, if one has.
 fn worker_of(work: &[Option<u32>], slot: u32) -> Option<u8>
-    requires { length work.now ≤ 64 }
+    requires { length work.now ≤ 255 }
     ensures has { IfSome result (λ w. slice_index_or work.now w None ≡ Some slot) }
     ensures none { IfNone result ((w : ℕ) → slice_index_or work.now w None ≡ Some slot → ⊥) }
 {

@@ -39,6 +39,7 @@ const ANSWERS: &[(Said, Answer)] = &[
             effect: CancelEffect::Yes,
         },
     ),
+    (Said::Purge, Answer::Purge),
     (
         Said::Policy {
             which: Which::Remove,

@@ -33,6 +33,7 @@ const TASKS: &[Row] = &[
 
 const OF_THE_EXECUTOR: &[Row] = &[
     (7, word!(Clock), "7 clock\n"),
+    (7, word!(Purge), "7 purge\n"),
     (9, word!(ShutdownAgain), "9 shutdown again\n"),
     (
         u64::MAX,

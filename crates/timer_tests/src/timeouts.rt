@@ -1,6 +1,7 @@
 //! Tests of the timers.
 mod growths;
 mod many;
+mod purges;
 mod refusals;
 mod steps;
 mod usage;

@@ -1,4 +1,4 @@
-//! Polls and finishes, and cancels from outside.
+//! Polls and finishes, cancels from outside, and purges.
 ghost use Rattle.std.specs.Prelude.{◌≡◌, ◌≤◌, IfOk, IfErr, IfSome, OnOk, OnErr};
 ghost use Rattle.live_core.specs.declared.error.CallError.TheVariants as call_error;
 
@@ -14,6 +14,7 @@ use std::alloc::Allocator;
 impl<A: Allocator> Timers<A> {
     ghost use Rattle.live_core.specs.Cancels.{CancelsOutside};
     ghost use Rattle.live_core.specs.Lives.{StaysQuiet};
+    ghost use Rattle.live_core.specs.Purges.{Purges};
     ghost use Rattle.timers.specs.Timers.{GivesNone, WasGivenWith};
     ghost use Rattle.timers.specs.Calls.{Polls, IsPollError, Finishes, IsFinishError};
 
@@ -98,5 +99,16 @@ impl<A: Allocator> Timers<A> {
             Ok(effect) => Ok(effect),
             Err(_) => unreachable!(),
         }
+    }
+
+    /// The tasks that were cancelled while they waited, and are kept in the queue, leave it at once: their slots are empty from now
+    /// on. No other task changes. It is made at the moment that it is now, and is never refused.
+    pub fn purge(&mut self)
+        ensures purged { Purges self.old.live self.new.live }
+        ensures stays { StaysQuiet self.old.live self.new.live self.old.live.count }
+        ensures keeps { GivesNone self.old self.new }
+        ensures user_data { self.new.user_data ≡ self.old.user_data }
+    {
+        self.executor.purge();
     }
 }

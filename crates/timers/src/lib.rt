@@ -2,7 +2,7 @@
 //!
 //! # Usage
 //!
-//! [`Timers`] are made once, for 1 to 64 workers. They run nothing themselves. The one who holds them hands in the moment of each
+//! [`Timers`] are made once, for 1 to 255 workers. They run nothing themselves. The one who holds them hands in the moment of each
 //! call, submits tasks with data of its own, such as the address of a connection, waits until the next one is due, and polls for
 //! a worker that has nothing to do.
 //!
@@ -33,8 +33,10 @@
 //! # Behaviour
 //!
 //! The executor is that of `live_core`, and so are its calls; [`poll`](Timers::poll) and [`finish`](Timers::finish) tell it the
-//! clock first. A contract sees the timers as a [`TimersView`](../../specs/Timers.antt): the executor, and the data in each slot.
-//! What a call does to the executor is said as there, whatever calls and history led here (`specs/Calls.antt`).
+//! clock first. A task that is cancelled while it waits stays in the queue, unless the policy says that it leaves, until a poll meets
+//! it, a shutdown sweeps, or a [`purge`](Timers::purge) comes. A contract sees the timers as a
+//! [`TimersView`](../../specs/Timers.antt): the executor, and the data in each slot. What a call does to the executor is said as
+//! there, whatever calls and history led here (`specs/Calls.antt`).
 //!
 //! Of the data the contracts say (`specs/Timers.antt`): whatever was given so far, one number with each submission, each call leaves
 //! each task that is alive, and each that it ended, with its own (`GivesNone`); a submission gives one more (`Gives`), whether it is
@@ -45,7 +47,7 @@
 //! A moment is a number of nanoseconds, at most 2^62, as is each delay and period. No call reads a clock: hand in one that does not
 //! go back, such as `CLOCK_MONOTONIC`. A poll or a finish at a moment that goes back is made [`now`](Timers::now); another call is
 //! made at the moment handed in, but not before now, and at least 1 ns after the last poll or finish. No poll begins a run before
-//! [`next_due`](Timers::next_due).
+//! [`next_due`](Timers::next_due), and none takes a task out of the queue before [`head_due`](Timers::head_due).
 //!
 //! # Errors
 //!

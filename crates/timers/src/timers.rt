@@ -1,7 +1,7 @@
 //! The timers, and what they tell.
 ghost use Rattle.std.specs.Prelude.{◌≡◌, ◌<◌, ◌≤◌, ◌==◌, ◌&&◌, [], true, false, IfOk, IfErr, IfSome, IfNone, OnOk, OnErr, IsOk, length, slice_index_or};
 ghost use Rattle.sched_time.specs.Times.{longest};
-ghost use Rattle.executor_model.specs.Counts.{IsWorkerCount};
+ghost use Rattle.executor_model.specs.Counts.{IsLiveWorkerCount};
 
 use live_core::{MakeError, ScheduledExecutor, TaskRef};
 use sched_time::Policies;
@@ -31,17 +31,17 @@ impl<A: Allocator> Model for Timers<A> {
 }
 
 impl<A: Allocator> Timers<A> {
-    ghost use Rattle.task_table.specs.Firsts.{IsEarliest, NoneWaits};
+    ghost use Rattle.task_table.specs.Firsts.{IsEarliest, NoneWaits, IsHead, NoneQueued};
     ghost use Rattle.task_table.specs.Tables.{workers_of};
     ghost use Rattle.live_core.specs.Lives.{Stands};
     ghost use Rattle.live_core.specs.Said.{IsMakeError, TellsTask, TellsWaiting, tasks_in, alive_in, is_there, is_waiting_there};
     ghost use Rattle.timers.specs.Timers.{IsGivenAt, WasGivenWith, WereGiven, data_in};
 
-    /// Timers before anything happened, for 1 to 64 workers, which `alloc` gives their memory.
+    /// Timers before anything happened, for 1 to 255 workers, which `alloc` gives their memory.
     ///
     /// # Errors
     ///
-    /// [`MakeError::Workers`] where there are none, or more than 64; [`MakeError::Memory`] where `alloc` refuses the memory for
+    /// [`MakeError::Workers`] where there are none; [`MakeError::Memory`] where `alloc` refuses the memory for
     /// them.
     pub fn new(alloc: A, workers: u8) -> Result<Timers<A>, MakeError>
     where
@@ -52,7 +52,7 @@ impl<A: Allocator> Timers<A> {
         ensures slots { IfOk result (λ t. t.live.table.slots ≡ []) }
         ensures earliest { IfOk result (λ t. t.live.earliest ≡ 0) }
         ensures ended { IfOk result (λ t. t.live.ended ≡ []) }
-        ensures range { OnOk result (IsWorkerCount workers) }
+        ensures range { OnOk result (IsLiveWorkerCount workers) }
         ensures failed { IfErr result (λ error. IsMakeError workers error) }
     {
         Ok(Timers {
@@ -136,6 +136,15 @@ impl<A: Allocator> Timers<A> {
         ensures none { IfNone result (NoneWaits self.now.live.table) }
     {
         self.executor.next_due()
+    }
+
+    /// The due moment of the head of the queue, in nanoseconds, which waits for a run or is kept after a cancel: before it no poll takes
+    /// a task out of the queue. `None` where none stands there.
+    pub fn head_due(&self) -> Option<u64>
+        ensures head { IfSome result (λ due. IsHead self.now.live.table due) }
+        ensures none { IfNone result (NoneQueued self.now.live.table) }
+    {
+        self.executor.head_due()
     }
 
     /// The policies that are set.

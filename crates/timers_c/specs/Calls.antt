@@ -15,14 +15,14 @@ use Rattle.executor_model.specs.declared.types.CancelEffect.{CancelEffect}
 use Rattle.executor_model.specs.declared.types.Outcome.{Outcome}
 use Rattle.executor_model.specs.declared.types.Outcome.TheVariants as o
 use Rattle.executor_model.specs.Answers.{bare}
-use Rattle.executor_model.specs.Counts.{IsWorkerCount}
+use Rattle.executor_model.specs.Counts.{IsLiveWorkerCount}
 use Rattle.executor_model.specs.Flows.{lines_at}
 use Rattle.executor_model.specs.Histories.{HistoryEntry, happenings}
 use Rattle.executor_model.specs.State.{after}
 use Rattle.task_table.specs.declared.answers.Asked.{Asked}
 use Rattle.task_table.specs.declared.seat.TaskRef.{TaskRef}
 use Rattle.task_table.specs.Changes.{grown}
-use Rattle.task_table.specs.Firsts.{IsEarliest, NoneWaits}
+use Rattle.task_table.specs.Firsts.{IsEarliest, IsHead, NoneQueued, NoneWaits}
 use Rattle.task_table.specs.Seats.{waits, is_running_in}
 use Rattle.task_table.specs.Tables.{workers_of}
 use Rattle.live_core.specs.declared.answers.Submitted.{Submitted}
@@ -30,6 +30,7 @@ use Rattle.live_core.specs.declared.answers.Submitted.TheVariants as su
 use Rattle.live_core.specs.declared.error.CallError.{CallError}
 use Rattle.live_core.specs.declared.error.CallError.TheVariants as ce
 use Rattle.live_core.specs.Cancels.{CancelsOutside}
+use Rattle.live_core.specs.Purges as purges
 use Rattle.live_core.specs.Lives.{LiveView, Stands, Stays, StaysQuiet, moment_of_call}
 use Rattle.live_core.specs.Said.{IsSubmitError, IsPeriodicError, alive_in, ending, submit_reply, tasks_in}
 use Rattle.live_core.specs.Shutting.{AreGone, Asks, Sets, ShutsDown, StopsAtOnce, shutdown_answer}
@@ -76,7 +77,7 @@ no_ref = record { number = 0; slot = 0 }
 
 -- timers before anything happened, for so many workers: there are no slots, and no lines
 pub record Opens (seen : Seen) (workers : ℕ) : Type 0 where
-  pub range : IsWorkerCount workers
+  pub range : IsLiveWorkerCount workers
   pub size : workers_of seen.timers.live.table ≡ workers
   pub stands : Stands seen.timers.live [] []
   pub given : WereGiven seen.timers []
@@ -89,8 +90,8 @@ pub record Opens (seen : Seen) (workers : ℕ) : Type 0 where
 abbrev pub Makes : Status → ℕ → Option Seen → Option Seen → Type 0
 Makes s.Done workers None (Some new) = Opens new workers
 Makes s.HasTimers workers (Some old) (Some new) = new ≡ old
-Makes s.Workers workers None None = IsWorkerCount workers → ⊥
-Makes s.NoMemory workers None None = IsWorkerCount workers
+Makes s.Workers workers None None = IsLiveWorkerCount workers → ⊥
+Makes s.NoMemory workers None None = IsLiveWorkerCount workers
 Makes _ workers old new = ⊥
 
 -- what the freeing of timers came to
@@ -158,7 +159,7 @@ TakesSubmission s.NoMemory now timing first user_data ref (Some old) (Some new) 
 TakesSubmission s.NoTimers now timing first user_data ref None None = ref ≡ no_ref
 TakesSubmission _ now timing first user_data ref old new = ⊥
 
--- ---- cancels
+-- ---- cancels and purges
 
 -- a cancel of the task of a number is made, with this effect; the line is that of its answer
 pub record Cancels (old new : Seen) (number : ℕ) (effect : CancelEffect) : Type 0 where
@@ -174,6 +175,20 @@ TakesCancel s.Done task written (Some old) (Some new) = (effect : CancelEffect) 
 TakesCancel s.NoTask task written (Some old) (Some new) = (old.timers.live.count ≤ task.number) × (new ≡ old) × (written ≡ 0)
 TakesCancel s.NoTimers task written None None = written ≡ 0
 TakesCancel _ task written old new = ⊥
+
+-- a purge is made; the line is that of its answer
+pub record Purges (old new : Seen) : Type 0 where
+  pub makes : purges.Purges old.timers.live new.timers.live
+  pub keeps : GivesNone old.timers new.timers
+  pub stays : StaysQuiet old.timers.live new.timers.live old.timers.live.count
+  pub user_data : new.timers.user_data ≡ old.timers.user_data
+  pub lines : new.lines ≡ lines_at new.timers.live.table.moment (bare a.Purge)
+
+-- what a purge came to
+abbrev pub TakesPurge : Status → Option Seen → Option Seen → Type 0
+TakesPurge s.Done (Some old) (Some new) = Purges old new
+TakesPurge s.NoTimers None None = Unit {0}
+TakesPurge _ old new = ⊥
 
 -- ---- runs
 
@@ -342,6 +357,13 @@ ReadsDue s.Done due (Some old) (Some new) = (new ≡ old) × IsEarliest old.time
 ReadsDue s.Idle due (Some old) (Some new) = (new ≡ old) × NoneWaits old.timers.live.table × (due ≡ 0)
 ReadsDue s.NoTimers due None None = due ≡ 0
 ReadsDue _ due old new = ⊥
+
+-- what the asking for the due moment of the head of the queue came to
+abbrev pub ReadsHead : Status → ℕ → Option Seen → Option Seen → Type 0
+ReadsHead s.Done due (Some old) (Some new) = (new ≡ old) × IsHead old.timers.live.table due
+ReadsHead s.Idle due (Some old) (Some new) = (new ≡ old) × NoneQueued old.timers.live.table × (due ≡ 0)
+ReadsHead s.NoTimers due None None = due ≡ 0
+ReadsHead _ due old new = ⊥
 
 -- how far a task is: a run of it is under way, it waits for one, or is kept in the queue; or nothing comes of it any more
 abbrev pub phase_of : Task → Phase

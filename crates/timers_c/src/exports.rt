@@ -2,7 +2,7 @@
 ghost use Rattle.std.specs.Prelude.{◌≡◌, length, take};
 ghost use Rattle.sched_time.specs.declared.timing.Ending.TheVariants as endings;
 ghost use Rattle.sched_time.specs.declared.timing.Timing.TheVariants as timings;
-ghost use Rattle.timers_c.specs.Calls.{holding, Answers, Makes, Frees, Reserves, TakesSubmission, TakesCancel, TakesPoll, TakesFinish, TakesPolicy, TakesShutdown, TakesShutdownNow, TakesAsk, ReadsDue, ReadsTask, Reads, ReadsEnded};
+ghost use Rattle.timers_c.specs.Calls.{holding, Answers, Makes, Frees, Reserves, TakesSubmission, TakesCancel, TakesPurge, TakesPoll, TakesFinish, TakesPolicy, TakesShutdown, TakesShutdownNow, TakesAsk, ReadsDue, ReadsHead, ReadsTask, Reads, ReadsEnded};
 ghost use Rattle.timers_c.specs.Many.{FinishesMany, PollsMany};
 ghost use Rattle.timers_c.specs.Texts.{Copies};
 
@@ -16,7 +16,7 @@ use line_copy::Copied;
 use sched_time::Ending as HowItEnded;
 use std::alloc::Global;
 
-/// Makes timers in an empty slot, before anything happened, for 1 to 64 workers.
+/// Makes timers in an empty slot, before anything happened, for 1 to 255 workers.
 #[unsafe(no_mangle)]
 pub extern "C" fn timers_ref_new(alloc: Global, slot: &mut Slot, workers: u32) -> u32
     ensures { Answers result
@@ -135,6 +135,16 @@ pub extern "C" fn timers_ref_cancel(
     submitting::cancel(alloc, slot, *task, effect).number()
 }
 
+/// Takes the tasks out of the queue that were cancelled while they waited, and are kept.
+#[unsafe(no_mangle)]
+pub extern "C" fn timers_ref_purge(alloc: Global, slot: &mut Slot) -> u32
+    ensures { Answers result
+        (λ status. TakesPurge status (holding slot.old.full slot.old.held.value)
+        (holding slot.new.full slot.new.held.value)) }
+{
+    submitting::purge(alloc, slot).number()
+}
+
 /// A worker that has no run under way begins one of the first task that is due.
 #[unsafe(no_mangle)]
 pub extern "C" fn timers_ref_poll(
@@ -230,6 +240,16 @@ pub extern "C" fn timers_ref_next_due(alloc: Global, slot: &mut Slot, due: &mut 
         (holding slot.new.full slot.new.held.value)) }
 {
     reading::read_due(alloc, slot, due).number()
+}
+
+/// The due moment of the head of the queue, which waits or is kept.
+#[unsafe(no_mangle)]
+pub extern "C" fn timers_ref_head_due(alloc: Global, slot: &mut Slot, due: &mut u64) -> u32
+    ensures { Answers result
+        (λ status. ReadsHead status due.new (holding slot.old.full slot.old.held.value)
+        (holding slot.new.full slot.new.held.value)) }
+{
+    reading::read_head(alloc, slot, due).number()
 }
 
 /// How far the task of a number is, whatever the slot of the ref.

@@ -1,6 +1,6 @@
 //! The calls that tell how far the timers are, and change nothing.
 ghost use Rattle.std.specs.Prelude.{◌≡◌};
-ghost use Rattle.timers_c.specs.Calls.{holding, Reads, ReadsDue, ReadsEnded, ReadsTask};
+ghost use Rattle.timers_c.specs.Calls.{holding, Reads, ReadsDue, ReadsEnded, ReadsHead, ReadsTask};
 
 use crate::refs::{Gone, Ref};
 use crate::slot::Slot;
@@ -20,6 +20,26 @@ pub fn read_due(alloc: Global, slot: &mut Slot, due: &mut u64) -> Status
     let next = session.timers().next_due();
     slot.put(session);
     match next {
+        Some(moment) => {
+            *due = moment;
+            Status::Done
+        }
+        None => Status::Idle,
+    }
+}
+
+/// The due moment of the head of the queue.
+pub fn read_head(alloc: Global, slot: &mut Slot, due: &mut u64) -> Status
+    ensures { ReadsHead result due.new (holding slot.old.full slot.old.held.value)
+        (holding slot.new.full slot.new.held.value) }
+{
+    *due = 0;
+    let Some(session) = slot.take(alloc) else {
+        return Status::NoTimers;
+    };
+    let head = session.timers().head_due();
+    slot.put(session);
+    match head {
         Some(moment) => {
             *due = moment;
             Status::Done

@@ -25,7 +25,7 @@ pub struct Session {
 
 impl Model for Session {
     ghost use Rattle.std.specs.Prelude.{◌≤◌};
-    ghost use Rattle.executor_model.specs.Counts.{most_workers};
+    ghost use Rattle.executor_model.specs.Counts.{most_live_workers};
     ghost use Rattle.task_table.specs.Tables.{workers_of};
     ghost use Rattle.timers_c.specs.Seen.{Seen};
     ghost use Rattle.call_lines.specs.Lasts.{lines_of_last};
@@ -34,18 +34,18 @@ impl Model for Session {
 
     ghost view = { λ s. record { timers = s.timers; lines = lines_of_last s.last s.timers.live.table.moment s.timers.live.ended } };
 
-    ghost invariant = { λ s. workers_of s.timers.live.table ≤ most_workers };
+    ghost invariant = { λ s. workers_of s.timers.live.table ≤ most_live_workers };
 }
 
 impl Session {
-    ghost use Rattle.timers_c.specs.Calls.{Opens, Grows, Submits, IsRefused, Cancels, Begins, FailsToBegin, EndsRun, IsFar, SetsPolicy, Shuts, Stops, AsksTimers, IsEndedAt};
+    ghost use Rattle.timers_c.specs.Calls.{Opens, Grows, Submits, IsRefused, Cancels, Purges, Begins, FailsToBegin, EndsRun, IsFar, SetsPolicy, Shuts, Stops, AsksTimers, IsEndedAt};
     ghost use Rattle.timers_c.specs.own.Submissions.{first_of, timing_of};
 
     /// Timers before anything happened.
     ///
     /// # Errors
     ///
-    /// `Workers` where their number is not 1 to 64, and `Memory` where memory is refused.
+    /// `Workers` where their number is not 1 to 255, and `Memory` where memory is refused.
     pub fn open(alloc: Global, workers: u32) -> Result<Session, MakeError>
         ensures opens { IfOk result (λ session. Opens session workers) }
         ensures failed { IfErr result (λ error. IsMakeError workers error) }
@@ -120,6 +120,15 @@ impl Session {
         let said = Said::Outside { task, effect };
         self.last = Last::Call { said };
         Ok(effect)
+    }
+
+    /// Takes the kept tasks out of the queue.
+    pub fn purge(&mut self)
+        ensures { Purges self.old self.new }
+    {
+        self.timers.purge();
+        let said = Said::Purge;
+        self.last = Last::Call { said };
     }
 
     /// A worker polls.

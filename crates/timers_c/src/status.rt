@@ -13,7 +13,7 @@ pub enum Status {
     NoTimers,
     /// The slot has timers already.
     HasTimers,
-    /// The number of workers is not 1 to 64.
+    /// The number of workers is not 1 to 255.
     Workers,
     /// A submission is rejected, since the timers are shut.
     Shut,

@@ -1,6 +1,6 @@
-//! The submissions and the cancels.
+//! The submissions, the cancels and the purges.
 ghost use Rattle.std.specs.Prelude.{◌≡◌};
-ghost use Rattle.timers_c.specs.Calls.{holding, TakesCancel, TakesSubmission};
+ghost use Rattle.timers_c.specs.Calls.{holding, TakesCancel, TakesPurge, TakesSubmission};
 ghost use Rattle.timers_c.specs.Numbers.{number_of_effect};
 ghost use Rattle.timers_c.specs.own.Submissions.{first_of, timing_of};
 
@@ -76,6 +76,19 @@ pub fn cancel(alloc: Global, slot: &mut Slot, task: Ref, effect: &mut u32) -> St
             Status::NoTask
         }
     }
+}
+
+/// Takes the kept tasks out of the queue.
+pub fn purge(alloc: Global, slot: &mut Slot) -> Status
+    ensures { TakesPurge result (holding slot.old.full slot.old.held.value)
+        (holding slot.new.full slot.new.held.value) }
+{
+    let Some(mut session) = slot.take(alloc) else {
+        return Status::NoTimers;
+    };
+    session.purge();
+    slot.put(session);
+    Status::Done
 }
 
 /// The number of what a cancel did.

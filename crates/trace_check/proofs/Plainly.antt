@@ -237,3 +237,4 @@ plainly calls workers v lines (h.Clock t) few tasks within busy may = clocks_pla
 plainly calls workers v lines (h.Start w) few tasks within busy may = starts_plainly calls workers v lines w few busy
 plainly calls workers v lines (h.Finish w ending) few tasks within busy may = finishes_plainly calls workers v lines w ending few busy
 plainly calls workers v lines (h.Cancel k) few tasks within busy may = cancels_plainly calls workers v lines k tasks
+plainly calls workers v lines h.Purge few tasks within busy may = own calls workers v lines h.Purge tt refl

@@ -56,7 +56,8 @@ abbrev pub HistoriesFit : Type 0
 HistoriesFit = (calls : List Planned) (workers : ℕ) (past : List HistoryEntry) → IsPlanned calls → IsWorkerCount workers → IsHistoryOf calls workers past
     → All FitsHappening (happenings past) → length past ≤ 2 ^ 64 → All FitsLine (lines_of calls past)
 
--- the text of such a history conforms, also where a cancel from outside stands between two calls that one clock reaches
+-- the text of such a history conforms, also where a cancel from outside or a purge stands between two calls that one
+-- clock reaches
 abbrev pub HistoriesConform : Type 0
 HistoriesConform = (calls : List Planned) (workers : ℕ) (past : List HistoryEntry) → IsPlanned calls → IsWorkerCount workers → IsHistoryOf calls workers past
     → All FitsHappening (happenings past) → length past ≤ 2 ^ 64 → Conforms calls workers (lines_text (lines_of calls past))

@@ -58,9 +58,10 @@ representative_ending (o.Again due) = e.Value 0
 representative_ending o.Dropped = e.Value 0
 representative_ending o.Ended = e.Value 0
 
--- a happening that gets this answer at this moment, behind these lines: a call, where no event gets it
+-- a happening that gets this answer at this moment, behind these lines: a call, where no event and no purge gets it
 abbrev pub representative_of : ℕ → List Line → ℕ → Answer → Option Happening
 representative_of workers before moment (a.Outside task effect) = Some (h.Cancel task)
+representative_of workers before moment a.Purge = Some h.Purge
 representative_of workers before moment a.Clock = Some (h.Clock moment)
 representative_of workers before moment (a.Start worker task run due) = Some (h.Start worker)
 representative_of workers before moment (a.Idle worker) = Some (h.Start worker)

@@ -75,6 +75,7 @@ impl Busy {
     {
         match *said {
             Said::Outside { task, .. } => Some(Happening::Cancel(task)),
+            Said::Purge => Some(Happening::Purge),
             Said::Clock => Some(Happening::Clock(moment)),
             Said::Start { worker, .. } | Said::Idle { worker } => Some(Happening::Start(worker)),
             Said::Done { worker, value, .. } => {

@@ -22,7 +22,7 @@
 //! their order, each before any accepted clock that has reached its moment. Calls may stand with no clock after them, and other
 //! happenings between them. [`traces_conform`] is this law. It asks that each line can be spelled, which is so of each history whose
 //! runs ended with values of 64 bits and codes of 32 ([`histories_fit`]). So the text of such a history conforms
-//! ([`histories_conform`]), wherever a cancel from outside stands in it.
+//! ([`histories_conform`]), wherever a cancel from outside or a purge stands in it.
 //!
 //! A line tells the happening that it answers, or all that matters of it. Where it leaves something open, any event
 //! that gets the line will do, and one of them, the *representative*, is tried:
@@ -34,6 +34,7 @@
 //! | `start W ..` | worker W asks for work |
 //! | `finish W ..` | worker W has run its task: with the value of `done`, the code of `failed`, and else the value 0 |
 //! | `outside K ..` | task K is cancelled |
+//! | `purge` | the kept tasks leave the queue |
 //! | `error backward`, `error too far` | the clock shows 0, or 2^62 + 1 |
 //! | `error no worker`, `error no task` | worker 255 asks for work, or task 4,294,967,295 is cancelled |
 //! | `error busy` | the busy worker of least number asks for work |

@@ -1,4 +1,4 @@
--- Each line is shown once.
+-- Each line is shown once, but a purge.
 use Rattle.std.proofs.Common.{◌≡◌, ℕ, ◌+◌, ◌==◌, Bool, true, false, cond, inl, inr, List, [], ◌∷◌, ◌++◌, length, Option, Some, None, refl, sym, ap, ◌∙◌, arith}
 use Rattle.std.specs.Prelude.{slice_get, is_some, ◌&&◌, if◌then◌else◌}
 use Rattle.std.specs.Option.{option_or}
@@ -16,27 +16,34 @@ use Rattle.trace_draw.specs.declared.bars.Bar.{Bar}
 use Rattle.trace_draw.specs.declared.bars.Finish.{Finish}
 use Rattle.trace_draw.specs.Bars.{finish_in, finish_of, bar_by, bar_in, bars_of}
 use Rattle.trace_draw.specs.Marks.{is_mark, is_mark_by, marks_of}
-use Rattle.trace_draw.specs.Laws.{BarsAreInLanes, start_line, tells_finish_by, finishes_some, tells_finish, LinesAreCounted, is_finished_of, FinishesAreCounted}
+use Rattle.trace_draw.specs.Laws.{BarsAreInLanes, start_line, tells_finish_by, finishes_some, tells_finish, tells_purge, LinesAreCounted, is_finished_of, FinishesAreCounted}
 use Rattle.trace_draw.proofs.Turns.{run_said, AreInTurn}
 use Rattle.trace_draw.proofs.Lanes.{FinishesHere, GoesOn, StartsHere, step, free_step, turn_of, bars_start}
 
 -- ---- lines
 
-counts_one_by : (moment : ℕ) (r : Answer) (line : Line) (later : List Line) (bars : List Bar) (f : ℕ) (marks : List Line) →
-    1 + (length bars + (f + length marks)) ≡ length (cons_option (bar_by moment r later) bars) + (cond (finishes_some r) (1 + f) f + length (cond (is_mark_by r) (line ∷ marks) marks))
-counts_one_by moment (a.Start w k n d) line later bars f marks = omega arith
-counts_one_by moment (a.Finish w k n o) line later bars f marks = omega arith
-counts_one_by moment r line later bars f marks = omega arith
+counts_one_by : (moment : ℕ) (r : Answer) (line : Line) (later : List Line) (bars : List Bar) (f p : ℕ) (marks : List Line) →
+    1 + (length bars + (f + (p + length marks)))
+    ≡ length (cons_option (bar_by moment r later) bars) + (cond (finishes_some r) (1 + f) f + (cond (tells_purge (m.Answer r)) (1 + p) p + length (cond (is_mark_by r) (line ∷ marks) marks)))
+counts_one_by moment (a.Start w k n d) line later bars f p marks = omega arith
+counts_one_by moment (a.Finish w k n o) line later bars f p marks = omega arith
+counts_one_by moment a.Purge line later bars f p marks = omega arith
+counts_one_by moment r line later bars f p marks = omega arith
 
-counts_one : (moment : ℕ) (message : Message) (line : Line) (later : List Line) (bars : List Bar) (f : ℕ) (marks : List Line) →
-    1 + (length bars + (f + length marks)) ≡ length (cons_option (bar_in moment message later) bars) + (cond (tells_finish message) (1 + f) f + length (cond (is_mark message) (line ∷ marks) marks))
-counts_one moment (m.Answer r) line later bars f marks = counts_one_by moment r line later bars f marks
-counts_one moment (m.End task) line later bars f marks = omega arith
+counts_one : (moment : ℕ) (message : Message) (line : Line) (later : List Line) (bars : List Bar) (f p : ℕ) (marks : List Line) →
+    1 + (length bars + (f + (p + length marks)))
+    ≡ length (cons_option (bar_in moment message later) bars) + (cond (tells_finish message) (1 + f) f + (cond (tells_purge message) (1 + p) p + length (cond (is_mark message) (line ∷ marks) marks)))
+counts_one moment (m.Answer r) line later bars f p marks = counts_one_by moment r line later bars f p marks
+counts_one moment (m.End task) line later bars f p marks = omega arith
 
 pub lines_are_counted : LinesAreCounted
 lines_are_counted [] = refl
 lines_are_counted (line ∷ later) =
-    omega (arith, lines_are_counted later, counts_one line.moment line.message line later (bars_of later) (how_many (λ l. tells_finish l.message) later) (marks_of later))
+    omega (
+      arith,
+      lines_are_counted later,
+      counts_one line.moment line.message line later (bars_of later) (how_many (λ l. tells_finish l.message) later) (how_many (λ l. tells_purge l.message) later) (marks_of later),
+    )
 
 -- ---- finishes
 

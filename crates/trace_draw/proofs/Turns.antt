@@ -106,6 +106,7 @@ run_is_said calls workers v (h.Finish u ending) =
 run_is_said calls workers v (h.Cancel k) =
     let pick : (b : Bool) → SaysRun v (cond b (a.Outside k (effect_on (v.fate k))) (a.Error x.NoTask)) = elim [ true ↦ tt | false ↦ tt ] in
     pick _
+run_is_said calls workers v h.Purge = tt
 
 finish_says : (calls : List Planned) (workers : ℕ) (past : List HistoryEntry) (e : HistoryEntry) (w k n : ℕ) → IsHistoryOf calls workers (e ∷ past) → SaysRun (view_of_history calls past) e.answer
 finish_says calls workers past e w k n m = subst (SaysRun (view_of_history calls past)) (sym m.2) (run_is_said calls workers (view_of_history calls past) e.happening)
@@ -255,6 +256,7 @@ rises now call (h.Clock t) =
 rises now call (h.Start w) = omega arith
 rises now call (h.Finish w ending) = omega arith
 rises now call (h.Cancel k) = omega arith
+rises now call h.Purge = omega arith
 
 -- ---- lines that are in turn
 

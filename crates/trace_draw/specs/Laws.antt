@@ -105,8 +105,8 @@ BarsDoNotOverlap = (calls : List Planned) (workers : ℕ) (lines : List Line) (i
 
 -- ---- marks
 
--- a line is a mark, and as many lines before it are marks that the window shows as the index says: it starts no run and finishes
--- none, and the window shows it
+-- a line is a mark, and as many lines before it are marks that the window shows as the index says: it starts no run, finishes none
+-- and is no purge, and the window shows it
 pub record IsMarkAt (lines : List Line) (window : Window) (i : ℕ) (line : Line) : Type 0 where
   pub before : List Line
   pub later : List Line
@@ -125,7 +125,7 @@ abbrev pub MarksAreLines : Type 0
 MarksAreLines = (lines : List Line) (workers : ℕ) (window : Window) (i : ℕ) (line : Line) → slice_get (picture_of lines workers window).marks i ≡ Some line
     → IsMarkAt lines window i line
 
--- ---- each line is shown once
+-- ---- each line is shown once, but a purge
 
 -- what a line says is that a worker finished a run
 abbrev pub tells_finish_by : ℕ → Message → Bool
@@ -142,9 +142,15 @@ abbrev pub tells_finish : Message → Bool
 tells_finish (m.Answer answer) = finishes_some answer
 tells_finish (m.End task) = false
 
--- the lines are as many as the bars, the finishes and the marks
+-- what a line says is that there was a purge, for which nothing is drawn
+abbrev pub tells_purge : Message → Bool
+tells_purge (m.Answer a.Purge) = true
+tells_purge _ = false
+
+-- the lines are as many as the bars, the finishes, the marks and the purges
 abbrev pub LinesAreCounted : Type 0
-LinesAreCounted = (lines : List Line) → length lines ≡ length (bars_of lines) + (how_many (λ line. tells_finish line.message) lines + length (marks_of lines))
+LinesAreCounted = (lines : List Line)
+    → length lines ≡ length (bars_of lines) + (how_many (λ line. tells_finish line.message) lines + (how_many (λ line. tells_purge line.message) lines + length (marks_of lines)))
 
 -- a bar is of a worker, and has a finish
 abbrev pub is_finished_of : ℕ → Bar → Bool

@@ -47,7 +47,7 @@ pub fn bars_do_not_overlap()
     ensures { BarsDoNotOverlap }
 {}
 
-/// A picture has a mark for each line that starts no run, finishes none and that its window shows: the marks stand in the order of
+/// A picture has a mark for each line that starts no run, finishes none, is no purge and that its window shows: the marks stand in the order of
 /// these lines.
 pub fn lines_have_marks()
     ensures { LinesHaveMarks }
@@ -58,7 +58,7 @@ pub fn marks_are_lines()
     ensures { MarksAreLines }
 {}
 
-/// Lines are as many as their bars, their finishes and their marks.
+/// Lines are as many as their bars, their finishes, their marks and their purges.
 pub fn lines_are_counted()
     ensures { LinesAreCounted }
 {}

@@ -1,4 +1,4 @@
-//! What a picture of a trace shows: bars for the runs, marks for all other lines, and an axis of time.
+//! What a picture of a trace shows: bars for the runs, marks for other lines, and an axis of time.
 //!
 //! # Usage
 //!
@@ -24,16 +24,16 @@
 //! # Behaviour
 //!
 //! A [`Bar`] stands for each line that starts a run: from its moment to the first finish by the same worker behind it, or open,
-//! where there is none. Each other line is a mark, unless it finishes a run: a submission, a refusal, a cancel, the end of a
-//! task, a policy, a shutdown, an `ask`, a clock, a worker that is idle, an error. A picture shows the bars of which its
+//! where there is none. Each other line is a mark, unless it finishes a run or is a purge: a submission, a refusal, a cancel, the
+//! end of a task, a policy, a shutdown, an `ask`, a clock, a worker that is idle, an error. A picture shows the bars of which its
 //! [`Window`] has a part, also where they reach over an end of it ([`starts_have_bars`]), and no others
-//! ([`bars_meet_the_window`]); and a mark for each other line within it
+//! ([`bars_meet_the_window`]); and a mark for each such line within it
 //! ([`lines_have_marks`]), and no others ([`marks_are_lines`]). Both ends of a window are shown.
 //!
 //! The lines may be any. Of those of a trace that conforms more is so: their moments do not fall ([`moments_do_not_fall`]), the
 //! finish of a bar is that of its own task and run ([`finishes_are_their_own`]), bars in one lane do not overlap
 //! ([`bars_do_not_overlap`]), no run has two bars ([`no_run_has_two_bars`]), and each worker has as many finishes as bars that
-//! have one ([`finishes_are_counted`]). So each of their lines is shown once: [`lines_are_counted`].
+//! have one ([`finishes_are_counted`]). So each of their lines but a purge is shown once: [`lines_are_counted`].
 //!
 //! [`Tick`]s stand at each multiple of a step that the window shows: the first step of 1, 2, 5, 10, 20, 50, 100, 200, 500 ns, the
 //! same of us and ms, 1, 2, 5, 10, 15, 30 s and min, 1, 2, 3, 6, 12 h, and 1, 2, 5 d and so on to 50,000 d, of which seven reach over

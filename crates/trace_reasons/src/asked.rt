@@ -65,6 +65,7 @@ fn happening_of(moment: Option<u64>, words: &[&str]) -> Option<Happening> {
             Some(Happening::Finish(worker, ending_of(rest)))
         }
         "outside" => next.parse().ok().map(Happening::Cancel),
+        "purge" => Some(Happening::Purge),
         "error" => event_of_error(rest),
         "submit" | "refuse" | "cancel" | "policy" | "shutdown" | "ask" => Some(Happening::Call),
         _ => None,

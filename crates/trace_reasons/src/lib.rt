@@ -47,6 +47,7 @@
 //! | `start W` | the start; where W runs a task, first its end with the value 0 |
 //! | `finish W` | the end with that value or that code, or with the value 0; where W runs no task, first its start |
 //! | `outside K` | the cancel of K |
+//! | `purge` | the purge |
 //! | `error ..` | an event that may get the error |
 //! | anything else | the next call, the clock M, and the start of worker 0 |
 //!

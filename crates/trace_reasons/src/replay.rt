@@ -93,6 +93,7 @@ impl<A: Allocator> Replay<A> {
 fn happening_of(moment: u64, said: &Answer) -> Option<Happening> {
     match said {
         Answer::Outside { task, .. } => Some(Happening::Cancel(*task)),
+        Answer::Purge => Some(Happening::Purge),
         Answer::Clock => Some(Happening::Clock(moment)),
         Answer::Start { worker, .. } | Answer::Idle { worker } => Some(Happening::Start(*worker)),
         Answer::Finish {

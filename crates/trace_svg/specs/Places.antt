@@ -38,7 +38,7 @@ bar_width window bar = max (end_across window bar.finish - across window bar.fir
 
 -- ---- from the top
 
--- the mark of what a line says. (A start and a finish of a run are no marks.)
+-- the mark of what a line says. (A start and a finish of a run, and a purge, are no marks.)
 abbrev pub glyph_by : Answer → Glyph
 glyph_by (a.Submit task kind due) = glyph.Submit
 glyph_by (a.Refuse task refusal) = glyph.Refuse

@@ -33,7 +33,7 @@
 //! | the number of marks | at the upper right of the marks of a row that stand at one place, where there are several |
 //! | the axis | below the lanes: a line through them for each tick, and its moment |
 //!
-//! The tooltip of a mark is its line of the trace; that of a bar the name of its task and its one or two lines. A bar's colour tells
+//! A purge is not drawn. The tooltip of a mark is its line of the trace; that of a bar the name of its task and its one or two lines. A bar's colour tells
 //! what the run led to: done, failed, again, dropped, ended, or open where it has no finish.
 //!
 //! No run hides another. The bars of a lane, in their order, are *piles*: a bar that begins left of where the pile before it ends

@@ -44,7 +44,7 @@ pub fn bar_width(window: Window, bar: &Bar) -> u32
     right.saturating_sub(across(window, bar.first)).max(3)
 }
 
-/// The mark of what a line says. A start and a finish of a run are no marks.
+/// The mark of what a line says. A start and a finish of a run, and a purge, are no marks.
 pub fn glyph_of(message: Message) -> Glyph
     ensures { result ≡ glyph_of message }
 {
@@ -68,7 +68,9 @@ fn glyph_by(answer: Answer) -> Glyph
         Answer::Ask { .. } => Glyph::Ask,
         Answer::Clock => Glyph::Clock,
         Answer::Error(_) => Glyph::Error,
-        Answer::Start { .. } | Answer::Idle { .. } | Answer::Finish { .. } => Glyph::Idle,
+        Answer::Start { .. } | Answer::Idle { .. } | Answer::Finish { .. } | Answer::Purge => {
+            Glyph::Idle
+        }
     }
 }
 

@@ -84,20 +84,22 @@ pub unread_words : (bytes : List ℕ)
     → ((t : List ℕ) → bytes ≡ codes " ask queue " ++ t → ⊥)
     → ((t : List ℕ) → bytes ≡ codes " policy " ++ t → ⊥)
     → ((t : List ℕ) → bytes ≡ codes " shutdown" ++ t → ⊥)
+    → ((t : List ℕ) → bytes ≡ codes " purge\n" ++ t → ⊥)
     → IsUnread message_text FitsMessage bytes
-unread_words bytes start finish clock submit ended outside cancel refuse failed ask policy stopped (Answer (a.Start w k n d)) tail f h = start (start_text (w, Some (k, (n, d))) ++ tail) h
-unread_words bytes start finish clock submit ended outside cancel refuse failed ask policy stopped (Answer (a.Idle w)) tail f h = start (start_text (w, None) ++ tail) h
-unread_words bytes start finish clock submit ended outside cancel refuse failed ask policy stopped (Answer (a.Finish w k n o)) tail f h = finish ((decimal w ++ (codes " task " ++ (decimal k ++ (codes " run " ++ (decimal n ++ outcome_text o))))) ++ tail) h
-unread_words bytes start finish clock submit ended outside cancel refuse failed ask policy stopped (Answer (a.Submit k kind d)) tail f h = submit (submit_text (k, (kind, d)) ++ tail) h
-unread_words bytes start finish clock submit ended outside cancel refuse failed ask policy stopped (Answer (a.Refuse k reason)) tail f h = refuse (refuse_text (k, reason) ++ tail) h
-unread_words bytes start finish clock submit ended outside cancel refuse failed ask policy stopped (Answer (a.Cancel k e)) tail f h = cancel (cancel_text (k, e) ++ tail) h
-unread_words bytes start finish clock submit ended outside cancel refuse failed ask policy stopped (Answer (a.Outside k e)) tail f h = outside (cancel_text (k, e) ++ tail) h
-unread_words bytes start finish clock submit ended outside cancel refuse failed ask policy stopped (Answer (a.Policy which value)) tail f h = policy (set_text (which, value) ++ tail) h
-unread_words bytes start finish clock submit ended outside cancel refuse failed ask policy stopped (Answer (a.Ask q r shut over)) tail f h = ask (ask_text (q, (r, (shut, over))) ++ tail) h
-unread_words bytes start finish clock submit ended outside cancel refuse failed ask policy stopped (Answer (a.Error e)) tail f h = failed (text_then error_text (codes "\n") e ++ tail) h
-unread_words bytes start finish clock submit ended outside cancel refuse failed ask policy stopped (End k) tail f h = ended (text_then decimal (codes "\n") k ++ tail) h
-unread_words bytes start finish clock submit ended outside cancel refuse failed ask policy stopped (Answer a.Clock) tail f h = clock tail h
-unread_words bytes start finish clock submit ended outside cancel refuse failed ask policy stopped m tail f h = stopped (drop (length (codes " shutdown")) (message_text m) ++ tail) h
+unread_words bytes start finish clock submit ended outside cancel refuse failed ask policy stopped purge (Answer (a.Start w k n d)) tail f h = start (start_text (w, Some (k, (n, d))) ++ tail) h
+unread_words bytes start finish clock submit ended outside cancel refuse failed ask policy stopped purge (Answer (a.Idle w)) tail f h = start (start_text (w, None) ++ tail) h
+unread_words bytes start finish clock submit ended outside cancel refuse failed ask policy stopped purge (Answer (a.Finish w k n o)) tail f h = finish ((decimal w ++ (codes " task " ++ (decimal k ++ (codes " run " ++ (decimal n ++ outcome_text o))))) ++ tail) h
+unread_words bytes start finish clock submit ended outside cancel refuse failed ask policy stopped purge (Answer (a.Submit k kind d)) tail f h = submit (submit_text (k, (kind, d)) ++ tail) h
+unread_words bytes start finish clock submit ended outside cancel refuse failed ask policy stopped purge (Answer (a.Refuse k reason)) tail f h = refuse (refuse_text (k, reason) ++ tail) h
+unread_words bytes start finish clock submit ended outside cancel refuse failed ask policy stopped purge (Answer (a.Cancel k e)) tail f h = cancel (cancel_text (k, e) ++ tail) h
+unread_words bytes start finish clock submit ended outside cancel refuse failed ask policy stopped purge (Answer (a.Outside k e)) tail f h = outside (cancel_text (k, e) ++ tail) h
+unread_words bytes start finish clock submit ended outside cancel refuse failed ask policy stopped purge (Answer (a.Policy which value)) tail f h = policy (set_text (which, value) ++ tail) h
+unread_words bytes start finish clock submit ended outside cancel refuse failed ask policy stopped purge (Answer (a.Ask q r shut over)) tail f h = ask (ask_text (q, (r, (shut, over))) ++ tail) h
+unread_words bytes start finish clock submit ended outside cancel refuse failed ask policy stopped purge (Answer (a.Error e)) tail f h = failed (text_then error_text (codes "\n") e ++ tail) h
+unread_words bytes start finish clock submit ended outside cancel refuse failed ask policy stopped purge (End k) tail f h = ended (text_then decimal (codes "\n") k ++ tail) h
+unread_words bytes start finish clock submit ended outside cancel refuse failed ask policy stopped purge (Answer a.Clock) tail f h = clock tail h
+unread_words bytes start finish clock submit ended outside cancel refuse failed ask policy stopped purge (Answer a.Purge) tail f h = purge tail h
+unread_words bytes start finish clock submit ended outside cancel refuse failed ask policy stopped purge m tail f h = stopped (drop (length (codes " shutdown")) (message_text m) ++ tail) h
 
 -- ---- one line
 

@@ -31,6 +31,7 @@ uncommon (s.Done a b c d) _ _ _ _ _ _ not _ _ = absurd (not a b c d refl)
 uncommon (s.Again a b c d) _ _ _ _ _ _ _ not _ = absurd (not a b c d refl)
 uncommon (s.Error a) _ _ _ _ _ _ _ _ not = absurd (not a refl)
 uncommon (s.Refuse a b) _ _ _ _ _ _ _ _ _ = refl
+uncommon s.Purge _ _ _ _ _ _ _ _ _ = refl
 uncommon (s.Policy a b) _ _ _ _ _ _ _ _ _ = refl
 uncommon s.Shutdown _ _ _ _ _ _ _ _ _ = refl
 uncommon s.ShutdownAgain _ _ _ _ _ _ _ _ _ = refl
@@ -44,6 +45,7 @@ uncommon (s.End a) _ _ _ _ _ _ _ _ _ = refl
 -- what is none of these is common
 pub common : (x : Said)
     → ((a : Refusal) (b : ℕ) → x ≡ s.Refuse a b → ⊥)
+    → (x ≡ s.Purge → ⊥)
     → ((a : Which) (b : Bool) → x ≡ s.Policy a b → ⊥)
     → (x ≡ s.Shutdown → ⊥)
     → (x ≡ s.ShutdownAgain → ⊥)
@@ -54,22 +56,23 @@ pub common : (x : Said)
     → ((a : ℕ) (b : ℕ) (c : ℕ) → x ≡ s.Ended a b c → ⊥)
     → ((a : ℕ) → x ≡ s.End a → ⊥)
     → is_common x ≡ true
-common (s.Refuse a b) not _ _ _ _ _ _ _ _ _ = absurd (not a b refl)
-common (s.Policy a b) _ not _ _ _ _ _ _ _ _ = absurd (not a b refl)
-common s.Shutdown _ _ not _ _ _ _ _ _ _ = absurd (not refl)
-common s.ShutdownAgain _ _ _ not _ _ _ _ _ _ = absurd (not refl)
-common s.ShutdownNow _ _ _ _ not _ _ _ _ _ = absurd (not refl)
-common (s.Ask a b c d) _ _ _ _ _ not _ _ _ _ = absurd (not a b c d refl)
-common (s.Failed a b c d) _ _ _ _ _ _ not _ _ _ = absurd (not a b c d refl)
-common (s.Dropped a b c) _ _ _ _ _ _ _ not _ _ = absurd (not a b c refl)
-common (s.Ended a b c) _ _ _ _ _ _ _ _ not _ = absurd (not a b c refl)
-common (s.End a) _ _ _ _ _ _ _ _ _ not = absurd (not a refl)
-common (s.Submit a b c) _ _ _ _ _ _ _ _ _ _ = refl
-common (s.Cancel a b) _ _ _ _ _ _ _ _ _ _ = refl
-common (s.Outside a b) _ _ _ _ _ _ _ _ _ _ = refl
-common s.Clock _ _ _ _ _ _ _ _ _ _ = refl
-common (s.Start a b c d) _ _ _ _ _ _ _ _ _ _ = refl
-common (s.Idle a) _ _ _ _ _ _ _ _ _ _ = refl
-common (s.Done a b c d) _ _ _ _ _ _ _ _ _ _ = refl
-common (s.Again a b c d) _ _ _ _ _ _ _ _ _ _ = refl
-common (s.Error a) _ _ _ _ _ _ _ _ _ _ = refl
+common (s.Refuse a b) not _ _ _ _ _ _ _ _ _ _ = absurd (not a b refl)
+common s.Purge _ not _ _ _ _ _ _ _ _ _ = absurd (not refl)
+common (s.Policy a b) _ _ not _ _ _ _ _ _ _ _ = absurd (not a b refl)
+common s.Shutdown _ _ _ not _ _ _ _ _ _ _ = absurd (not refl)
+common s.ShutdownAgain _ _ _ _ not _ _ _ _ _ _ = absurd (not refl)
+common s.ShutdownNow _ _ _ _ _ not _ _ _ _ _ = absurd (not refl)
+common (s.Ask a b c d) _ _ _ _ _ _ not _ _ _ _ = absurd (not a b c d refl)
+common (s.Failed a b c d) _ _ _ _ _ _ _ not _ _ _ = absurd (not a b c d refl)
+common (s.Dropped a b c) _ _ _ _ _ _ _ _ not _ _ = absurd (not a b c refl)
+common (s.Ended a b c) _ _ _ _ _ _ _ _ _ not _ = absurd (not a b c refl)
+common (s.End a) _ _ _ _ _ _ _ _ _ _ not = absurd (not a refl)
+common (s.Submit a b c) _ _ _ _ _ _ _ _ _ _ _ = refl
+common (s.Cancel a b) _ _ _ _ _ _ _ _ _ _ _ = refl
+common (s.Outside a b) _ _ _ _ _ _ _ _ _ _ _ = refl
+common s.Clock _ _ _ _ _ _ _ _ _ _ _ = refl
+common (s.Start a b c d) _ _ _ _ _ _ _ _ _ _ _ = refl
+common (s.Idle a) _ _ _ _ _ _ _ _ _ _ _ = refl
+common (s.Done a b c d) _ _ _ _ _ _ _ _ _ _ _ = refl
+common (s.Again a b c d) _ _ _ _ _ _ _ _ _ _ _ = refl
+common (s.Error a) _ _ _ _ _ _ _ _ _ _ _ = refl

@@ -102,6 +102,7 @@ answer_text (answer.Submit k kind d) = codes " submit " ++ (decimal k ++ (codes 
 answer_text (answer.Refuse k reason) = codes " refuse " ++ (decimal k ++ (codes " " ++ (refusal_text reason ++ codes "\n")))
 answer_text (answer.Cancel k e) = codes " cancel " ++ cancel_text (k, e)
 answer_text (answer.Outside k e) = codes " outside " ++ cancel_text (k, e)
+answer_text answer.Purge = codes " purge\n"
 answer_text (answer.Policy which value) = codes " policy " ++ (policy_text which ++ (codes " " ++ (truth_text value ++ codes "\n")))
 answer_text answer.Shutdown = codes " shutdown\n"
 answer_text answer.ShutdownAgain = codes " shutdown again\n"

@@ -51,6 +51,7 @@
 //! | `Refuse` | `M refuse K illegal`, `M refuse K rejected` |
 //! | `Cancel` | `M cancel K yes`, `M cancel K no`, `M cancel K none` |
 //! | `Outside` | `M outside K yes`, `M outside K no`, `M outside K none` |
+//! | `Purge` | `M purge` |
 //! | `Policy` | `M policy`, and one of `continue`, `execute`, `remove`, and one of `true`, `false` |
 //! | `Shutdown`, `ShutdownAgain`, `ShutdownNow` | `M shutdown`, `M shutdown again`, `M shutdown now` |
 //! | `Ask` | `M ask queue Q running R shutdown yes terminated no`, each of the two words `yes` or `no` |
@@ -81,7 +82,7 @@
 //! # Memory and cost
 //!
 //! Readers take no memory, and look at each byte of a line once, or a few times in a word. The first word of a trace's
-//! line is looked for among twelve, those that are most frequent first. Writers write each byte where it stays, and take memory
+//! line is looked for among thirteen, those that are most frequent first. Writers write each byte where it stays, and take memory
 //! only where there is less room than [`LINE_ROOM`] bytes; a capacity never falls. The longest event's line has 35 bytes, the
 //! longest line of a trace 104.
 //!

@@ -58,6 +58,9 @@ pub fn split_message<const ALONE: bool>(bytes: &[u8]) -> Option<(Said, &[u8])>
     if let Some(rest) = strip_word(bytes, *b" shutdown") {
         return split_shutdown(rest);
     }
+    if let Some(rest) = strip_short_word(bytes, *b" purge\n") {
+        return Some((Said::Purge, rest));
+    }
     None
 }
 

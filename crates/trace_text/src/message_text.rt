@@ -97,6 +97,7 @@ fn put_rare(buffer: &mut [u8], at: usize, said: &Said) -> usize
 {
     match *said {
         Said::Refuse { refusal, task } => put_refuse(buffer, at, task, refusal),
+        Said::Purge => put_text(buffer, at, *b" purge\n"),
         Said::Policy { which, value } => put_policy(buffer, at, which, value),
         Said::Shutdown => put_text(buffer, at, *b" shutdown\n"),
         Said::ShutdownAgain => put_text(buffer, at, *b" shutdown again\n"),

@@ -190,6 +190,7 @@ event_ends_none calls workers past (h.Clock t) event = refl
 event_ends_none calls workers past (h.Start w) event = refl
 event_ends_none calls workers past (h.Finish w ending) event = refl
 event_ends_none calls workers past (h.Cancel k) event = refl
+event_ends_none calls workers past h.Purge event = refl
 
 -- the last line of a history whose last entry is that of an event is its answer
 pub last_line : (calls : List Planned) (workers : ℕ) (past : List HistoryEntry) (e : HistoryEntry) → IsHistoryOf calls workers (e ∷ past) → is_call e.happening ≡ false →

@@ -193,6 +193,7 @@ sweeps_are_calls m (h.Clock t) q = absurd (events_sweep_nothing m (h.Clock t) re
 sweeps_are_calls m (h.Start w) q = absurd (events_sweep_nothing m (h.Start w) refl q)
 sweeps_are_calls m (h.Finish w ending) q = absurd (events_sweep_nothing m (h.Finish w ending) refl q)
 sweeps_are_calls m (h.Cancel k) q = absurd (events_sweep_nothing m (h.Cancel k) refl q)
+sweeps_are_calls m h.Purge q = absurd (events_sweep_nothing m h.Purge refl q)
 
 -- the moves of a need leave the handles as they are
 pub moved_handles : (v : CoreSeatView) (need : Need) → OnlyOwnGrows v (moves_made v need)
@@ -212,3 +213,4 @@ call_comes_before (h.Clock t) q = absurd (false≢true q)
 call_comes_before (h.Start w) q = absurd (false≢true q)
 call_comes_before (h.Finish w ending) q = absurd (false≢true q)
 call_comes_before (h.Cancel k) q = refl
+call_comes_before h.Purge q = refl

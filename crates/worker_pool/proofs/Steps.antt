@@ -119,6 +119,7 @@ ends_none calls workers s (h.Clock t) plain = refl
 ends_none calls workers s (h.Start w) plain = refl
 ends_none calls workers s (h.Finish w ending) plain = refl
 ends_none calls workers s (h.Cancel k) plain = refl
+ends_none calls workers s h.Purge plain = refl
 
 -- the tasks that a happening cancels after a history are those whose words its need sets
 pub cancelled_then : (calls : List Planned) (workers : ℕ) (past : List HistoryEntry) (y : Happening) (k : ℕ) → IsHistoryOf calls workers past →

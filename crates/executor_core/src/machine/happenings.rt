@@ -31,7 +31,10 @@ impl<A: Allocator> Core<A> {
         match happening {
             Happening::Call => self.next_call().is_some(),
             Happening::Clock(moment) => !self.reaches_call(Event::Clock(moment)),
-            Happening::Start(_) | Happening::Finish(_, _) | Happening::Cancel(_) => true,
+            Happening::Start(_)
+            | Happening::Finish(_, _)
+            | Happening::Cancel(_)
+            | Happening::Purge => true,
         }
     }
 
@@ -82,7 +85,7 @@ impl<A: Allocator> Core<A> {
                 Some((_, call)) => self.need_of_call(call),
                 None => Need::Nothing,
             },
-            Happening::Clock(_) => Need::Nothing,
+            Happening::Clock(_) | Happening::Purge => Need::Nothing,
             Happening::Start(worker) => self.start_need(worker),
             Happening::Finish(worker, ending) => self.finish_need(worker, ending),
             Happening::Cancel(task) => self.cancel_need(task),
@@ -144,6 +147,7 @@ impl<A: Allocator> Core<A> {
             Happening::Start(worker) => self.start(worker, out),
             Happening::Finish(worker, ending) => self.finish(worker, ending, out),
             Happening::Cancel(task) => self.cancel(task, out),
+            Happening::Purge => self.purge(out),
         }
     }
 
@@ -176,6 +180,7 @@ impl<A: Allocator> Core<A> {
             Happening::Start(worker) => self.start(worker, out),
             Happening::Finish(worker, ending) => self.finish_as(worker, ending, foreseen.end, out),
             Happening::Cancel(task) => self.cancel(task, out),
+            Happening::Purge => self.purge(out),
         }
     }
 }

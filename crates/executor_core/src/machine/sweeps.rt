@@ -1,12 +1,14 @@
 //! Policies, the shutdowns, and the sweep that they make.
 ghost use Rattle.std.specs.Prelude.{◌≡◌, ℕ, ◌+◌, ◌≤◌, List, [], ◌∷◌, ◌++◌, length, map, Some, slice_get, true, false, vec_len, vec_capacity};
 ghost use Rattle.executor_model.specs.declared.types.Happening.TheVariants as happening;
+ghost use Rattle.executor_model.specs.declared.types.Answer.TheVariants as answer;
+ghost use Rattle.executor_model.specs.Answers.{bare};
 ghost use Rattle.queue_code.specs.declared.call.CodeCall.TheVariants as call;
 ghost use Rattle.queue_code.specs.Calls.{Planned, task_count};
 ghost use Rattle.executor_model.specs.Histories.{HistoryEntry};
 ghost use Rattle.executor_model.specs.Flows.{end_line};
 ghost use Rattle.executor_model.specs.Tasks.{uncancelled_in};
-ghost use Rattle.task_table.specs.Tables.{IsNextCall, StandsBefore};
+ghost use Rattle.task_table.specs.Tables.{IsNextCall, StandsBefore, EventStepsBefore};
 ghost use Rattle.task_table.specs.Firsts.{NoneKept};
 ghost use Rattle.task_table.specs.Ends.{sweeps_at, ends_at_slot};
 ghost use Rattle.task_table.specs.Changes.{after_sweep};
@@ -154,13 +156,14 @@ fn end_tasks<A: Allocator, B: Allocator>(table: &mut PlanTable<A>, out: &mut Vec
     }
 }
 
-/// Drops the kept tasks from the queue, before a call that sweeps.
-fn drop_kept<A: Allocator>(table: &mut PlanTable<A>)
+/// Drops the kept tasks from the queue, before a call that sweeps, or of a purge.
+pub(super) fn drop_kept<A: Allocator>(table: &mut PlanTable<A>)
     ensures unkept { AreUnkept table.old table.new }
     ensures steps { (calls : List Planned) (past : List HistoryEntry) (p : Planned)
         → IsNextCall calls past p → sweeps_at table.old.shut p.1 ≡ true
         → StandsBefore table.old calls past happening.Call
         → StandsBefore table.new calls past happening.Call }
+    ensures purges { EventStepsBefore table.old table.new happening.Purge (bare answer.Purge) }
     ensures none { NoneKept table.new }
 {
     while table.drop_kept().is_some() {}

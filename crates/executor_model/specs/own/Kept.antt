@@ -15,6 +15,7 @@ happening_of_flat (f.Start worker) = h.Start worker
 happening_of_flat (f.Done worker value) = h.Finish worker (e.Value value)
 happening_of_flat (f.Failed worker code) = h.Finish worker (e.Fault code)
 happening_of_flat (f.Cancel task) = h.Cancel task
+happening_of_flat f.Purge = h.Purge
 
 -- a happening as it is kept
 abbrev pub flat_of : Happening → Flat
@@ -24,6 +25,7 @@ flat_of (h.Start worker) = f.Start worker
 flat_of (h.Finish worker (e.Value value)) = f.Done worker value
 flat_of (h.Finish worker (e.Fault code)) = f.Failed worker code
 flat_of (h.Cancel task) = f.Cancel task
+flat_of h.Purge = f.Purge
 
 -- what is kept of a kept happening, is just that
 pub flat_of_happening : {X : Type 0} (g : Flat → X) (flat : Flat) → g (flat_of (happening_of_flat flat)) ≡ g flat
@@ -33,3 +35,4 @@ flat_of_happening g (f.Start worker) = refl
 flat_of_happening g (f.Done worker value) = refl
 flat_of_happening g (f.Failed worker code) = refl
 flat_of_happening g (f.Cancel task) = refl
+flat_of_happening g f.Purge = refl

@@ -24,6 +24,7 @@ pub fn do_step<A: Allocator>(
         "cancel_by_call" | "cancel_number_by_call" => cancel_by_call(executor, step),
         "set_continue" | "set_execute" | "set_remove" => set_policy(executor, step),
         "shut_down" | "shut_down_now" | "ask" | "reserve" => shut(executor, step),
+        "purge" => purged(executor),
         _ => look(executor, step),
     }
 }
@@ -95,13 +96,21 @@ fn shut<A: Allocator>(executor: &mut ScheduledExecutor<A>, step: Words<'_>) -> W
     }
 }
 
+/// Purges.
+fn purged<A: Allocator>(executor: &mut ScheduledExecutor<A>) -> Words<'static> {
+    executor.purge();
+    lone("purged")
+}
+
 /// Looks, and changes nothing.
 pub fn look<A: Allocator>(executor: &ScheduledExecutor<A>, step: Words<'_>) -> Words<'static> {
     let (number, slot) = (step.first, step.second);
     match step.word {
         "look" => tell("looks", executor.now(), executor.len() as u64, 0, 0),
         "next_due" => due_of(executor.next_due()),
+        "head_due" => due_of(executor.head_due()),
         "is_waiting" => is_so("waits", executor.is_waiting(task_of(number, slot))),
+        "holds" => is_so("holds", executor.holds(task_of(number, slot))),
         "policies" => policies(executor),
         "is_shut" => is_so("shut", executor.is_shut()),
         "numbers" => with_one("numbers", executor.numbers()),

@@ -13,6 +13,7 @@ fn the_page_is_run(rt: HostRuntime) -> Result<(), Fail> {
     table.clock(5)?;
     assert_eq!(rt; table.clock(4), Err(EventError::Backward));
     assert_eq!(rt; (table.now(), table.next_due()), (5, None)); // no task waits
+    assert_eq!(rt; table.head_due(), None); // and none is kept
     // end of example
     Ok(())
 }

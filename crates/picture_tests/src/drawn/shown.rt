@@ -108,6 +108,13 @@ fn all_but_starts_and_finishes_are_marks(rt: HostRuntime) -> Result<(), Fail> {
     Ok(())
 }
 
+#[test]
+fn purges_are_not_shown(rt: HostRuntime) -> Result<(), Fail> {
+    let shown = drawn(rt.alloc(), "0 purge\n5 clock\n5 purge\n", 0, 5, 2000)?;
+    assert!(rt; shown.bars().is_empty() && shown.marks().len() == 1);
+    Ok(())
+}
+
 /// A trace of two runs and a clock.
 const RUNS: &str = "1 start 0 task 0 run 0 due 1\n1 start 1 task 1 run 0 due 1\n2 clock\n";
 

@@ -1,6 +1,6 @@
 -- What the least entries of the two queues say. No contract of a public call cites it.
 -- All of it is this project's rule.
-use Rattle.std.specs.Prelude.{◌≡◌, ℕ, Bool, true, false, Option, Some}
+use Rattle.std.specs.Prelude.{◌≡◌, ℕ, ◌≤◌, Bool, true, false, Option, Some}
 use Rattle.task_table.specs.declared.seat.Seat.{Seat}
 use Rattle.task_table.specs.Seats.{slot_of}
 use Rattle.task_table.specs.Tables.{TableView}
@@ -13,7 +13,7 @@ pub record HeadsQueue (m : TableView) (slot due number : ℕ) : Type 0 where
   pub dues : task.due ≡ due
   pub named : task.number ≡ number
 
--- the first kept task, of this entry: where a start does not meet it, it meets none
+-- the first kept task, of this entry: where a start does not meet it, it meets none, and none is due earlier
 pub record HeadsKept (m : TableView) (slot due number : ℕ) : Type 0 where
   pub task : Seat
   pub there : slot_of m.slots slot ≡ Some task
@@ -21,6 +21,7 @@ pub record HeadsKept (m : TableView) (slot due number : ℕ) : Type 0 where
   pub dues : task.due ≡ due
   pub named : task.number ≡ number
   pub unmet : (first : Option Seat) → is_met m.moment first task ≡ false → MeetsNone m first
+  pub least : (i : ℕ) (y : Seat) → slot_of m.slots i ≡ Some y → y.kept ≡ true → due ≤ y.due
 
 -- whether a start meets a kept task of this due moment and number
 pub record IsMetBy (m : TableView) (due number : ℕ) (met : Bool) : Type 0 where

@@ -94,6 +94,7 @@ const WORDS: &[Form] = &[
     (error!(Busy), "L error busy"),
     (error!(NotRunning), "L error not running"),
     (error!(NoTask), "L error no task"),
+    (word!(Purge), "L purge"),
     (word!(Shutdown), "L shutdown"),
     (word!(ShutdownAgain), "L shutdown again"),
     (word!(ShutdownNow), "L shutdown now"),

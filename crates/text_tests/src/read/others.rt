@@ -30,7 +30,8 @@ fn refuses_other_words(rt: HostRuntime) {
         "5 policy keep true\n|5 policy remove\n|5 policy remove yes\n|5 shutdowns\n\
          |5 shutdown twice\n|5 shutdown again again\n|5 shutdown  now\n|5 shutdown nowx\n\
          |5 shutdown no\n|5 shutdown Now\n|5 shutdown now now\n|5 shutdown now again\n\
-         |5 shutdown again now\n|5 shutdownnow\n|5 shutdown_now\n|5 now\n|5 ask\n\
+         |5 shutdown again now\n|5 shutdownnow\n|5 shutdown_now\n|5 now\n|5 purge 0\n\
+         |5 purges\n|5 purg\n|5 Purge\n|purge\n|5  purge\n|5 ask\n\
          |5 ask queue 0 running 0 shutdown true terminated no\n\
          |5 ask queue 0 running 0 shutdown no terminated\n\
          |5 ask running 0 queue 0 shutdown no terminated no\n|5 error\n|5 error no\n|5 error far\n\

@@ -5,10 +5,10 @@ use std::test::Fail;
 use timers::{MakeError, Timers};
 
 /// Numbers of workers, and whether timers are made for so many.
-const WORKERS: &[(u8, bool)] = &[(0, false), (65, false), (255, false), (64, true)];
+const WORKERS: &[(u8, bool)] = &[(0, false), (64, true), (65, true), (255, true)];
 
 #[test]
-fn workers_are_1_to_64(rt: HostRuntime) {
+fn workers_are_1_to_255(rt: HostRuntime) {
     for (workers, made) in WORKERS {
         let error = Timers::new(rt.alloc(), *workers).err();
         let wanted = if *made {

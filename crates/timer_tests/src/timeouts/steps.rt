@@ -15,6 +15,7 @@ pub fn do_step<A: Allocator>(timers: &mut Timers<A>, step: Words<'_>) -> Words<'
         "schedule" | "execute" | "at_rate" | "with_delay" => submit(timers, step),
         "poll" | "finish" | "fail" => run(timers, step),
         "cancel" | "set_remove" | "shut_down" | "shut_down_now" => call(timers, step),
+        "purge" => purged(timers),
         _ => look(timers, step),
     }
 }
@@ -52,6 +53,12 @@ fn call<A: Allocator>(timers: &mut Timers<A>, step: Words<'_>) -> Words<'static>
     }
 }
 
+/// Purges.
+fn purged<A: Allocator>(timers: &mut Timers<A>) -> Words<'static> {
+    timers.purge();
+    lone("purged")
+}
+
 /// Looks, and changes nothing.
 fn look<A: Allocator>(timers: &Timers<A>, step: Words<'_>) -> Words<'static> {
     let (number, slot) = (step.first, step.second);
@@ -60,6 +67,7 @@ fn look<A: Allocator>(timers: &Timers<A>, step: Words<'_>) -> Words<'static> {
         "numbers" => with_one("numbers", timers.numbers()),
         "len" => with_one("len", timers.len() as u64),
         "next_due" => due_of(timers.next_due()),
+        "head_due" => due_of(timers.head_due()),
         "is_shut" => is_so("shut", timers.is_shut()),
         "data_of" => data_of(timers.user_data_of(task_of(number, slot))),
         "has_seat" => is_so("seat", timers.seat_of(task_of(number, slot)).is_some()),

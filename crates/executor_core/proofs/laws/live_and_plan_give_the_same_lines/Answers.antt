@@ -1,13 +1,12 @@
 -- Both answer by the table of answers, after one history.
-use Rattle.std.proofs.Common.{◌≡◌, ℕ, List, ◌∷◌, ◌++◌, length, refl, sym, ap, ◌∙◌, subst}
-use Rattle.queue_code.specs.Calls.{Planned}
+use Rattle.std.proofs.Common.{◌≡◌, ◌∷◌, ◌++◌, length, sym, ap, ◌∙◌, subst}
 use Rattle.executor_model.specs.Answers.{Reply}
 use Rattle.executor_model.specs.Histories.{happenings, answer, entry_of, IsHistoryOf}
-use Rattle.executor_model.specs.State.{State, after, next, reply_of}
+use Rattle.executor_model.specs.State.{after, next, reply_of}
 use Rattle.executor_model.specs.Flows.{lines_at}
 use Rattle.executor_model.proofs.Agree.{after_agrees, answers_alike}
 use Rattle.task_table.specs.Tables as tables
-use Rattle.executor_core.specs.CoreView.{workers_of, state_of, Stands}
+use Rattle.executor_core.specs.CoreView.{workers_of, state_of}
 use Rattle.executor_core.proofs.laws.live_and_plan_give_the_same_lines.Goals as goal
 
 pub returns : goal.returns

@@ -5,7 +5,7 @@ use Rattle.task_table.specs.Tables.{TableView}
 use Rattle.live_core.specs.Lives.{AreAlive}
 use Rattle.live_core.specs.own.Formed.{AreNoted}
 use Rattle.live_core.proofs.Alive.{alive_dropped, leaves_dropped, LeavesThere}
-use Rattle.live_core.proofs.Swept.{noted_dropped, over_dropped, fewer_kept, slots_more, goes_dropped, goes_all}
+use Rattle.live_core.proofs.Swept.{noted_dropped, over_dropped, fewer_kept, slots_more, goes_dropped, goes_all, StaysUnkept, others_dropped}
 use Rattle.task_table.specs.Ends.{sweeps_at}
 use Rattle.task_table.specs.Changes.{unkept}
 use Rattle.std.specs.Prelude.{slice_set, Some, None}
@@ -34,6 +34,7 @@ loop-slot-preserved g c =
     let kept = c.loop-slot.invariant in
     record {
       goes = goes_dropped c.args.table.now m mid c.release.new.table slot kept.goes d c.release.ensures.slots;
+      others = others_dropped c.args.table.now m mid c.release.new.table slot kept.others d c.release.ensures.slots;
       leaves = leaves_dropped c.args.table.now m mid c.release.new.table slot (unkept d.task) d.is c.release.ensures.slots kept.leaves;
       size = c.release.ensures.leaves.size ∙ (ap (λ (v : TableView). length v.slots) d.is ∙ (length-set m.slots slot (Some (unkept d.task)) ∙ kept.size));
       rest = slots_more c.args.table.now mid c.release.new.table (slice_set mid.slots slot None)
@@ -42,6 +43,7 @@ loop-slot-preserved g c =
       alive = λ alive. alive_dropped m mid c.release.new.table slot d c.release.ensures.slots (kept.alive alive);
       stands = λ calls past p next sweeps before. c.release.ensures.stands_before calls past _
           (c.in-Some.ensures.steps calls past p next (ap (λ (v : TableView). sweeps_at v.shut p.1) kept.rest ∙ sweeps) (kept.stands calls past p next sweeps before));
+      purges = λ calls past before. c.release.ensures.stands_before calls past _ (c.in-Some.ensures.purges calls past (kept.purges calls past before));
     }
 
 pub returns-clause-noted : goal.returns-clause-noted
@@ -52,12 +54,14 @@ returns-clause-noted g c =
 pub loop-slot-init : goal.loop-slot-init
 loop-slot-init g c = record {
   goes = λ i x there kept. inl there;
+  others = λ i x there loose. there;
   leaves = λ i x there. there;
   size = refl;
   rest = refl;
   noted = λ count room before. before;
   alive = λ alive. alive;
   stands = λ calls past p next sweeps before. before;
+  purges = λ calls past before. before;
 }
 
 pub returns-clause-gone : goal.returns-clause-gone
@@ -68,3 +72,9 @@ returns-clause-alive g c = λ alive. subst (λ (v : TableView). AreAlive v.slots
 
 pub returns-clause-leaves : goal.returns-clause-leaves
 returns-clause-leaves g c = subst (LeavesThere c.args.table.now) (sym c.in_default.ensures.none.0) c.loop-slot.invariant.leaves
+
+pub returns-clause-others : goal.returns-clause-others
+returns-clause-others g c = subst (StaysUnkept c.args.table.now) (sym c.in_default.ensures.none.0) c.loop-slot.invariant.others
+
+pub returns-clause-purges : goal.returns-clause-purges
+returns-clause-purges g c = λ calls past before. c.in_default.ensures.purged calls past (c.loop-slot.invariant.purges calls past before)

@@ -4,7 +4,7 @@ use Rattle.trace_text.proofs.message.split_message.Goals as goal
 
 pub returns : goal.returns
 returns g c =
-    unread_words c.args.bytes.now c.in_default.ensures c.in_default-strip_short_word.ensures c.in_default-strip_short_word-2.ensures c.in_default-strip_short_word-3.ensures c.in_default-strip_short_word-4.ensures c.in_default-strip_word.ensures c.in_default-strip_short_word-5.ensures c.in_default-strip_short_word-6.ensures c.in_default-strip_short_word-7.ensures c.in_default-strip_word-2.ensures c.in_default-strip_short_word-8.ensures c.in_default-strip_word-3.ensures
+    unread_words c.args.bytes.now c.in_default.ensures c.in_default-strip_short_word.ensures c.in_default-strip_short_word-2.ensures c.in_default-strip_short_word-3.ensures c.in_default-strip_short_word-4.ensures c.in_default-strip_word.ensures c.in_default-strip_short_word-5.ensures c.in_default-strip_short_word-6.ensures c.in_default-strip_short_word-7.ensures c.in_default-strip_word-2.ensures c.in_default-strip_short_word-8.ensures c.in_default-strip_word-3.ensures c.in_default-strip_short_word-9.ensures
 
 pub returns-in_err-task : goal.returns-in_err-task
 returns-in_err-task g c =

@@ -10,7 +10,7 @@ use Rattle.trace_text.proofs.message_text.put_rare.Goals as goal
 pub unreachable-requires : goal.unreachable-requires
 unreachable-requires c =
     let not = c.in_default in
-    false≢true (sym c.requires.rare ∙ common c.args.said.now not.not-Refuse not.not-Policy not.not-Shutdown not.not-ShutdownAgain not.not-ShutdownNow not.not-Ask not.not-Failed not.not-Dropped not.not-Ended not.not-End)
+    false≢true (sym c.requires.rare ∙ common c.args.said.now not.not-Refuse not.not-Purge not.not-Policy not.not-Shutdown not.not-ShutdownAgain not.not-ShutdownNow not.not-Ask not.not-Failed not.not-Dropped not.not-Ended not.not-End)
 
 pub returns-in-ShutdownAgain-clause-put : goal.returns-in-ShutdownAgain-clause-put
 returns-in-ShutdownAgain-clause-put c =

@@ -48,3 +48,9 @@ returns-in-Cancel-clause-effective g c = λ task same said.
     let old = c.args.self.now in
     c.cancel.ensures.effective
     (subst (λ (x : Happening). (reply_of old.calls (workers_of old) (state_of old) x).answer ≡ a.Outside k f.Yes) c.in-Cancel.is (said ∙ ap (λ n. a.Outside n f.Yes) (sym named)))
+
+pub returns-in-Purge-clause-steps : goal.returns-in-Purge-clause-steps
+returns-in-Purge-clause-steps g c = rw c.in-Purge.is c.purge.ensures.steps
+
+pub returns-in-Purge-clause-history : goal.returns-in-Purge-clause-history
+returns-in-Purge-clause-history g c = step_continues c.args.self.now c.purge.new.self c.args.out.now.items c.purge.new.out.items c.args.foreseen.happening (returns-in-Purge-clause-steps g c)

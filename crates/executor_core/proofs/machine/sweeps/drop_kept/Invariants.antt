@@ -13,6 +13,7 @@ abbrev pub invariant-loop : goal.invariant-loop
 invariant-loop g l = record {
   unkept : AreUnkept l.fn.table l.table;
   stands : (calls : List Planned) (past : List HistoryEntry) (p : Planned) → IsNextCall calls past p → sweeps_at l.fn.table.shut p.1 ≡ true → StandsBefore l.fn.table calls past h.Call → StandsBefore l.table calls past h.Call;
+  purges : (calls : List Planned) (past : List HistoryEntry) → StandsBefore l.fn.table calls past h.Purge → StandsBefore l.table calls past h.Purge;
 }
 
 abbrev pub decreases-loop : goal.decreases-loop

@@ -2,7 +2,6 @@
 use Rattle.std.proofs.Common.{◌≤◌, ap, arith}
 use Rattle.task_table.specs.Tables.{TableView}
 use Rattle.task_table.specs.Orders.{keys}
-use Rattle.task_table.specs.Changes.{grown}
 use Rattle.task_table.proofs.Worked.{tabled_settled}
 use Rattle.task_table.proofs.restoring.TaskTable+A.blank.Goals as goal
 
