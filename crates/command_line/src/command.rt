@@ -1,7 +1,8 @@
 //! The command line.
 
-ghost use Rattle.std.specs.Prelude.{◌≡◌, false, [], ◌∷◌, codes, IfOk};
+ghost use Rattle.std.specs.Prelude.{◌≡◌, false, [], ◌∷◌, codes, IfOk, IsOkAnd};
 ghost use Rattle.clap.specs.Words.{app_of, rule_of};
+ghost use Rattle.command_line.specs.own.Programs.{AddsPlain, bare_app};
 ghost use Rattle.command_line.specs.Commands.{command_of, calls_file_rule, events_file_rule, from_rule, limit_rule, lint_rules, marks_rule, plan_file_rule, plan_of_lint_rule, plan_rule, sched_app, strict_rule, to_rule, trace_file_rule, trace_rule, workers_of_trace_rule, workers_rule};
 
 use crate::help::{CODE, DRAWING, FINDINGS, FORMS, LINT, LIVE, MIGRATION, POOL, STATUSES, TASKS};
@@ -17,23 +18,40 @@ use std::alloc::{AllocError, Global};
 pub fn command<'a>(alloc: Global) -> Result<Command<'a>, AllocError>
     ensures app { IfOk result (λ c. app_of c ≡ sched_app) }
 {
+    let program = program(alloc)?;
+    let program = with_command(program, run_command(alloc))?;
+    let program = with_command(program, pool_command(alloc))?;
+    let program = with_command(program, code_command(alloc))?;
+    let program = with_command(program, tasks_command(alloc))?;
+    let program = with_command(program, check_command(alloc))?;
+    let program = with_command(program, migrate_command(alloc))?;
+    let program = with_command(program, draw_command(alloc))?;
+    let program = with_command(program, live_command(alloc))?;
+    with_command(program, lint_command(alloc))
+}
+
+/// The program without its commands. `Err` where memory ran out.
+fn program<'a>(alloc: Global) -> Result<Command<'a>, AllocError>
+    ensures app { IfOk result (λ c. app_of c ≡ bare_app) }
+{
     Ok(
         Command::new(alloc, "sched")
             .bin_name("sched")?
             .about("Runs plans of scheduled tasks over lines of events, and writes what happens.")
             .version(VERSION)
             .after_help(STATUSES)
-            .subcommand_required(true)
-            .subcommand(run_command(alloc)?)?
-            .subcommand(pool_command(alloc)?)?
-            .subcommand(code_command(alloc)?)?
-            .subcommand(tasks_command(alloc)?)?
-            .subcommand(check_command(alloc)?)?
-            .subcommand(migrate_command(alloc)?)?
-            .subcommand(draw_command(alloc)?)?
-            .subcommand(live_command(alloc)?)?
-            .subcommand(lint_command(alloc)?)?,
+            .subcommand_required(true),
     )
+}
+
+/// A program with one more command, where there is one. `Err` where memory ran out, for it or for the command.
+fn with_command<'a>(
+    program: Command<'a>,
+    command: Result<Command<'a>, AllocError>,
+) -> Result<Command<'a>, AllocError>
+    ensures app { IfOk result (λ p. IsOkAnd command.entry (AddsPlain program.entry p)) }
+{
+    program.subcommand(command?)
 }
 
 /// `run`, with its three arguments. `Err` where memory ran out.
@@ -186,9 +204,7 @@ fn plan_of_lint<'a>(alloc: Global) -> Arg<'a>
     ensures rule { rule_of result ≡ plan_of_lint_rule }
     ensures local { result.global ≡ false }
 {
-    plan(alloc)
-        .help("The file of the plan")
-        .required(false)
+    plan(alloc).help("The file of the plan").required(false)
 }
 
 /// `TRACE`, which has to be there.
@@ -287,7 +303,9 @@ fn calls_file<'a>(alloc: Global) -> Arg<'a>
     Arg::new(alloc, "calls")
         .long("calls")
         .value_name("FILE")
-        .help("The file of calls and events, as 'sched live' takes them, that is looked at, without PLAN")
+        .help(
+            "The file of calls and events, as 'sched live' takes them, that is looked at, without PLAN",
+        )
         .action(ArgAction::Set)
 }
 

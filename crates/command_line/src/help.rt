@@ -233,8 +233,8 @@ Exit status:
 pub const FINDINGS: &str = with_kinds!(
     "\
 What is found is printed on a line to standard output:
-  conforms  the trace is that of some events: each line is what the plan's
-            calls and these events are answered
+  conforms  the trace is that of some events and purges: each line is what the
+            plan's calls and these are answered
   breaks N  it is none: lines 1 to N - 1 may begin such a trace, and with line
             N they may not, or the trace ends before line N, which has to come
 The end of a trace may be missing, but for the lines of the tasks that its last
@@ -287,8 +287,9 @@ greatest moment of the trace. There is
           the run led to. Runs that lie over one another are one bar, labelled
           '2 runs' where that fits, and else with their number at its upper
           right: failed where one of them failed, and else as the last one
-  a mark  for each other line of the trace, above the lanes. Where several of a
-          row stand at one place, their number stands at their upper right
+  a mark  for each other line of the trace but a purge's, above the lanes. Where
+          several of a row stand at one place, their number stands at their
+          upper right
 and each has a tooltip: of a mark its line, of a bar the name of its task and
 the lines of its run, and of several those of all. Bars are shown that have a
 part of the time, and marks within it.

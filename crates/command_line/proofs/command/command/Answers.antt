@@ -1,54 +1,34 @@
-use Rattle.std.proofs.Common.{rules, ap, ap₂, codes, true, ◌≡◌, ◌∙◌}
-use Rattle.std.proofs.lemmas.Bool.{and_parts, not-true}
-use Rattle.clap.specs.Words.{App, app_of, new_app, with_subcommand}
+use Rattle.std.proofs.Common.{ap, codes, refl, true, [], ◌∷◌, ◌≡◌, ◌∙◌}
+use Rattle.std.specs.Prelude.{Ok, Err, Result, IfOk, IsOkAnd}
+use Rattle.clap.specs.Words.{App, app_of, with_subcommand}
+use Rattle.clap.specs.declared.builder.command.Command.{Command}
+use Rattle.command_line.specs.Commands.{command_of, lint_rules, from_rule, limit_rule, marks_rule, plan_file_rule, plan_rule, to_rule, trace_rule, workers_rule}
+use Rattle.command_line.specs.own.Programs.{AddsPlain}
 use Rattle.command_line.proofs.command.command.Goals as goal
-use Rattle.command_line.proofs.command.command.Goals.{After-subcommand_required}
 
--- the program before its commands: it has a version, and one of them has to be named
-own : App
-own = record (new_app (codes "sched")) { top = record (new_app (codes "sched")).top { has_version = true; subcommand_required = true } }
+-- a program with one more command
+added : {E : Type 0} (command : Result Command E) (old new : Command) (known app : App)
+    → app_of old ≡ known → IfOk command (λ c. app_of c ≡ app) → app.top.is_plain ≡ true
+    → IsOkAnd command (AddsPlain old new) → app_of new ≡ with_subcommand known app.top
+added (Ok c) old new known app is named plain adds =
+    adds (ap (λ (a : App). a.top.is_plain) named ∙ plain) ∙ ap (λ (a : App). with_subcommand a (app_of c).top) is ∙ ap (λ (a : App). with_subcommand known a.top) named
+added (Err e) old new known app is named plain adds = absurd adds
 
-own_of : (c : After-subcommand_required) → app_of c.subcommand_required.result ≡ own
-unfolding own
-own_of c = search rules
+-- the same of what may be a program
+added_last : {E F : Type 0} (command : Result Command E) (old : Command) (new : Result Command F) (known app : App)
+    → app_of old ≡ known → IfOk command (λ c. app_of c ≡ app) → app.top.is_plain ≡ true
+    → IfOk new (λ p. IsOkAnd command (AddsPlain old p)) → IfOk new (λ p. app_of p ≡ with_subcommand known app.top)
+added_last command old (Ok p) known app is named plain adds = added command old p known app is named plain adds
+added_last command old (Err e) known app is named plain adds = tt
 
 pub returns : goal.returns
-unfolding own
 returns c =
-    let bare = own_of (goal.at.returns c).After-subcommand_required in
-    let run = c.in_ok-run_command.ensures.app in
-    let run_plain = ap (λ (a : App). a.top.is_plain) run in
-    let run_local = not-true _ (and_parts _ _ (and_parts _ _ (and_parts _ _ run_plain).1).1).0 in
-    let pool = c.in_ok-pool_command.ensures.app in
-    let pool_plain = ap (λ (a : App). a.top.is_plain) pool in
-    let pool_local = not-true _ (and_parts _ _ (and_parts _ _ (and_parts _ _ pool_plain).1).1).0 in
-    let code = c.in_ok-code_command.ensures.app in
-    let code_plain = ap (λ (a : App). a.top.is_plain) code in
-    let code_local = not-true _ (and_parts _ _ (and_parts _ _ (and_parts _ _ code_plain).1).1).0 in
-    let tasks = c.in_ok-tasks_command.ensures.app in
-    let tasks_plain = ap (λ (a : App). a.top.is_plain) tasks in
-    let tasks_local = not-true _ (and_parts _ _ (and_parts _ _ (and_parts _ _ tasks_plain).1).1).0 in
-    let check = c.in_ok-check_command.ensures.app in
-    let check_plain = ap (λ (a : App). a.top.is_plain) check in
-    let check_local = not-true _ (and_parts _ _ (and_parts _ _ (and_parts _ _ check_plain).1).1).0 in
-    let migrate = c.in_ok-migrate_command.ensures.app in
-    let migrate_plain = ap (λ (a : App). a.top.is_plain) migrate in
-    let migrate_local = not-true _ (and_parts _ _ (and_parts _ _ (and_parts _ _ migrate_plain).1).1).0 in
-    let draw = c.in_ok-draw_command.ensures.app in
-    let draw_plain = ap (λ (a : App). a.top.is_plain) draw in
-    let draw_local = not-true _ (and_parts _ _ (and_parts _ _ (and_parts _ _ draw_plain).1).1).0 in
-    let live = c.in_ok-live_command.ensures.app in
-    let live_plain = ap (λ (a : App). a.top.is_plain) live in
-    let live_local = not-true _ (and_parts _ _ (and_parts _ _ (and_parts _ _ live_plain).1).1).0 in
-    let lint = c.in_ok-lint_command.ensures.app in
-    let lint_plain = ap (λ (a : App). a.top.is_plain) lint in
-    let lint_local = not-true _ (and_parts _ _ (and_parts _ _ (and_parts _ _ lint_plain).1).1).0 in
-    let one = c.in_ok-subcommand.ensures.shape run_local ∙ ap₂ with_subcommand bare (ap (λ (a : App). a.top) run) in
-    let two = c.in_ok-subcommand-2.ensures.shape pool_local ∙ ap₂ with_subcommand one (ap (λ (a : App). a.top) pool) in
-    let three = c.in_ok-subcommand-3.ensures.shape code_local ∙ ap₂ with_subcommand two (ap (λ (a : App). a.top) code) in
-    let four = c.in_ok-subcommand-4.ensures.shape tasks_local ∙ ap₂ with_subcommand three (ap (λ (a : App). a.top) tasks) in
-    let five = c.in_ok-subcommand-5.ensures.shape check_local ∙ ap₂ with_subcommand four (ap (λ (a : App). a.top) check) in
-    let six = c.in_ok-subcommand-6.ensures.shape migrate_local ∙ ap₂ with_subcommand five (ap (λ (a : App). a.top) migrate) in
-    let seven = c.in_ok-subcommand-7.ensures.shape draw_local ∙ ap₂ with_subcommand six (ap (λ (a : App). a.top) draw) in
-    let eight = c.in_ok-subcommand-8.ensures.shape live_local ∙ ap₂ with_subcommand seven (ap (λ (a : App). a.top) live) in
-    record { app = c.in_ok-subcommand-9.ensures.shape lint_local ∙ ap₂ with_subcommand eight (ap (λ (a : App). a.top) lint) }
+    let run = added c.run_command.result c.in_ok-program.program c.in_ok-program-2.program _ (command_of (codes "run") (plan_rule ∷ workers_rule ∷ limit_rule ∷ [])) c.in_ok-program.ensures.app c.run_command.ensures.app refl c.in_ok-program-2.ensures.app in
+    let pool = added c.pool_command.result c.in_ok-program-2.program c.in_ok-program-3.program _ (command_of (codes "pool") (plan_rule ∷ workers_rule ∷ limit_rule ∷ [])) run c.pool_command.ensures.app refl c.in_ok-program-3.ensures.app in
+    let code = added c.code_command.result c.in_ok-program-3.program c.in_ok-program-4.program _ (command_of (codes "code") (plan_rule ∷ [])) pool c.code_command.ensures.app refl c.in_ok-program-4.ensures.app in
+    let tasks = added c.tasks_command.result c.in_ok-program-4.program c.in_ok-program-5.program _ (command_of (codes "tasks") (plan_rule ∷ [])) code c.tasks_command.ensures.app refl c.in_ok-program-5.ensures.app in
+    let check = added c.check_command.result c.in_ok-program-5.program c.in_ok-program-6.program _ (command_of (codes "check") (plan_rule ∷ trace_rule ∷ workers_rule ∷ [])) tasks c.check_command.ensures.app refl c.in_ok-program-6.ensures.app in
+    let migrate = added c.migrate_command.result c.in_ok-program-6.program c.in_ok-program-7.program _ (command_of (codes "migrate") (plan_rule ∷ [])) check c.migrate_command.ensures.app refl c.in_ok-program-7.ensures.app in
+    let draw = added c.draw_command.result c.in_ok-program-7.program c.in_ok-program-8.program _ (command_of (codes "draw") (plan_rule ∷ trace_rule ∷ workers_rule ∷ from_rule ∷ to_rule ∷ marks_rule ∷ [])) migrate c.draw_command.ensures.app refl c.in_ok-program-8.ensures.app in
+    let live = added c.live_command.result c.in_ok-program-8.program c.in_ok-program-9.program _ (command_of (codes "live") (workers_rule ∷ plan_file_rule ∷ [])) draw c.live_command.ensures.app refl c.in_ok-program-9.ensures.app in
+    record { app = added_last c.lint_command.result c.in_ok-program-9.program c.with_command-9.result _ (command_of (codes "lint") lint_rules) live c.lint_command.ensures.app refl c.with_command-9.ensures.app }
