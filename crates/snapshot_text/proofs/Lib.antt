@@ -1,0 +1,11 @@
+pub mod Both
+pub mod Fields
+pub mod Heads
+pub mod Tasks
+pub mod Lists
+pub mod Sections
+pub mod Summing
+pub mod Wholes
+pub mod Fronts
+pub mod Pages
+pub mod Written
