@@ -27,7 +27,7 @@ use std::test::Fail;
 use task_word::{CancelAnswer, CoreSeat, TaskState};
 use trace_check::{Finding, MOST_BYTES, check};
 use trace_text::{read_event, write_line};
-use worker_pool::{Applied, Book, Handle, Named, PoolError, Shared, Work};
+use worker_pool::{Book, Handle, Named, PoolError, Shared, Work};
 
 /// What is done; handles are numbered as they were admitted.
 #[derive(Clone, Copy)]
@@ -172,36 +172,81 @@ fn are_told<T: Debug>(
     Ok(())
 }
 
+/// A call that was refused a growth.
+#[derive(Clone, Copy, Debug, PartialEq, Eq)]
+enum Refused {
+    Shared,
+    Book,
+    /// A step, by its place in the script.
+    Step(usize),
+}
+
 /// What was told, what happened, and the lines.
 #[derive(Drop)]
 struct Played {
     told: Vec<Told>,
     happened: Vec<Happening>,
     lines: Vec<Line>,
+    /// The last call that was refused a growth.
+    refused: Option<Refused>,
+}
+
+impl Played {
+    /// Nothing, but that a call may have been refused a growth.
+    fn new(alloc: Global, refused: Option<Refused>) -> Played {
+        Played {
+            told: Vec::new(alloc),
+            happened: Vec::new(alloc),
+            lines: Vec::new(alloc),
+            refused,
+        }
+    }
 }
 
 type Handles<'s, N, A> = Vec<Option<Handle<'s, N, A>>>;
 
-/// Tells of an event that was applied.
-fn tell_applied(answer: Result<Applied, PoolError>) -> Told {
-    match answer {
+/// What is told of an event.
+fn apply<N: Named, A: HeapAllocator>(
+    book: &mut Book<N, A>,
+    shared: &Shared<A>,
+    event: Event,
+) -> Told
+    requires { (shared.now.table ≡ N.table) × (shared.now.cells ≡ N.cells) }
+{
+    match book.apply(shared, event) {
         Ok(applied) => Told::Lines(applied.count, applied.work),
         Err(error) => Told::Refused(error),
     }
 }
 
-/// Gives a handle back; where that is refused it stays.
-fn retire<'s, N: Named, A: Allocator>(
+/// A handle of a book, or why there is none.
+fn admit<'s, N: Named, A: HeapAllocator>(
     book: &mut Book<N, A>,
     shared: &'s Shared<A>,
-    handles: &mut Handles<'s, N, A>,
-    number: usize,
+) -> Result<Handle<'s, N, A>, PoolError>
+    requires { (shared.now.table ≡ N.table) × (shared.now.cells ≡ N.cells) }
+{
+    book.admit(shared)
+}
+
+/// What is told of the look at each word.
+fn note<N: Named, A: Allocator>(book: &mut Book<N, A>, shared: &Shared<A>) -> Told
+    requires { (shared.now.table ≡ N.table) × (shared.now.cells ≡ N.cells) }
+{
+    match book.note_cancels(shared) {
+        Ok(count) => Told::Noted(count),
+        Err(error) => Told::Refused(error),
+    }
+}
+
+/// Gives a handle back; where that is refused it stays in its place.
+fn give_back<'s, N: Named, A: Allocator>(
+    book: &mut Book<N, A>,
+    shared: &'s Shared<A>,
+    place: &mut Option<Handle<'s, N, A>>,
 ) -> Told
     requires { (shared.now.table ≡ N.table) × (shared.now.cells ≡ N.cells) }
 {
-    let Some(place) = handles.get_mut(number) else {
-        return Told::NoHandle;
-    };
     let Some(handle) = place.take() else {
         return Told::NoHandle;
     };
@@ -218,16 +263,12 @@ fn retire<'s, N: Named, A: Allocator>(
 fn renew<'s, N: Named, A: HeapAllocator>(
     book: &mut Book<N, A>,
     shared: &'s Shared<A>,
-    handles: &mut Handles<'s, N, A>,
-    number: usize,
+    place: &mut Option<Handle<'s, N, A>>,
 ) -> Told
     requires { (shared.now.table ≡ N.table) × (shared.now.cells ≡ N.cells) }
 {
-    let told = retire(book, shared, handles, number);
-    let Some(place) = handles.get_mut(number) else {
-        return told;
-    };
-    match book.admit(shared) {
+    let told = give_back(book, shared, place);
+    match admit(book, shared) {
         Ok(handle) => {
             *place = Some(handle);
             told
@@ -237,10 +278,10 @@ fn renew<'s, N: Named, A: HeapAllocator>(
 }
 
 /// What a handle tells.
-fn ask<'s, N: Named, A: Allocator>(
+fn ask<N: Named, A: Allocator>(
     book: &mut Book<N, A>,
-    shared: &'s Shared<A>,
-    handle: &mut Handle<'s, N, A>,
+    shared: &Shared<A>,
+    handle: &mut Handle<'_, N, A>,
     step: Step,
 ) -> Told
     requires { (shared.now.table ≡ N.table) × (shared.now.cells ≡ N.cells) }
@@ -254,105 +295,164 @@ fn ask<'s, N: Named, A: Allocator>(
     }
 }
 
+/// Does a step with the handle of some place.
+fn step_at<'s, N: Named, A: HeapAllocator>(
+    book: &mut Book<N, A>,
+    shared: &'s Shared<A>,
+    place: &mut Option<Handle<'s, N, A>>,
+    step: Step,
+) -> Told
+    requires { (shared.now.table ≡ N.table) × (shared.now.cells ≡ N.cells) }
+{
+    match step {
+        Step::Retire(_) => give_back(book, shared, place),
+        Step::Renew(_) => renew(book, shared, place),
+        _ => match place {
+            Some(handle) => ask(book, shared, handle, step),
+            None => Told::NoHandle,
+        },
+    }
+}
+
+/// The number of the handle with which a step is done.
+fn handle_of(step: Step) -> usize {
+    match step {
+        Step::Cancel(number, _)
+        | Step::State(number, _)
+        | Step::Result(number, _)
+        | Step::Agrees(number, _)
+        | Step::Retire(number)
+        | Step::Renew(number) => number,
+        _ => 0,
+    }
+}
+
 /// Does one step.
 fn step_of<'s, N: Named, A: HeapAllocator>(
     book: &mut Book<N, A>,
     shared: &'s Shared<A>,
     handles: &mut Handles<'s, N, A>,
     step: Step,
-) -> Result<Told, Fail>
+) -> Result<Told, AllocError>
     requires { (shared.now.table ≡ N.table) × (shared.now.cells ≡ N.cells) }
 {
     match step {
-        Step::Apply(event) => Ok(tell_applied(book.apply(shared, event))),
-        Step::Admit => match book.admit(shared) {
+        Step::Apply(event) => Ok(apply(book, shared, event)),
+        Step::NoteCancels => Ok(note(book, shared)),
+        Step::Admit => match admit(book, shared) {
             Ok(handle) => {
                 handles.push(Some(handle))?;
                 Ok(Told::Admitted)
             }
             Err(error) => Ok(Told::Refused(error)),
         },
-        Step::NoteCancels => match book.note_cancels(shared) {
-            Ok(count) => Ok(Told::Noted(count)),
-            Err(error) => Ok(Told::Refused(error)),
-        },
-        Step::Retire(number) => Ok(retire(book, shared, handles, number)),
-        Step::Renew(number) => Ok(renew(book, shared, handles, number)),
-        Step::Cancel(number, _)
-        | Step::State(number, _)
-        | Step::Result(number, _)
-        | Step::Agrees(number, _) => match handles.get_mut(number) {
-            Some(Some(handle)) => Ok(ask(book, shared, handle, step)),
-            _ => Ok(Told::NoHandle),
+        _ => match handles.get_mut(handle_of(step)) {
+            Some(place) => Ok(step_at(book, shared, place, step)),
+            None => Ok(Told::NoHandle),
         },
     }
 }
 
-/// What happened in a book, the oldest first.
-fn happenings_of<N: Named, A: Allocator>(
+/// Does the steps in order. Where growths are refused, a step that was refused one is done once more.
+fn tell_steps<'s, N: Named, A: HeapAllocator>(
     alloc: Global,
-    book: &Book<N, A>,
-) -> Result<Vec<Happening>, AllocError> {
-    let mut happened = Vec::new(alloc);
-    for kept in book.happenings() {
-        happened.push(kept.happening())?;
-    }
-    Ok(happened)
-}
-
-/// Does the steps in order.
-fn tell_steps<'s, N: Named>(
-    book: &mut Book<N, Global>,
-    alloc: Global,
-    shared: &'s Shared<Global>,
+    book: &mut Book<N, A>,
+    shared: &'s Shared<A>,
     steps: &[Step],
-) -> Result<Vec<Told>, Fail>
+    refuses: bool,
+    played: &mut Played,
+) -> Result<(), Fail>
     requires { (shared.now.table ≡ N.table) × (shared.now.cells ≡ N.cells) }
 {
     let mut handles = Vec::new(alloc);
-    let mut told = Vec::new(alloc);
     for step in steps {
-        told.push(step_of(book, shared, &mut handles, *step)?)?;
+        let told = if refuses {
+            growths::step_again(alloc, book, shared, &mut handles, *step, played)?
+        } else {
+            step_of(book, shared, &mut handles, *step)?
+        };
+        played.told.push(told)?;
     }
-    Ok(told)
+    Ok(())
+}
+
+/// What happened in a book, and its lines, the oldest first.
+fn show<N: Named, A: Allocator>(
+    book: &Book<N, A>,
+    happened: &mut Vec<Happening>,
+    lines: &mut Vec<Line>,
+) -> Result<(), AllocError> {
+    for kept in book.happenings() {
+        happened.push(kept.happening())?;
+    }
+    lines.extend_from_slice(book.lines())?;
+    Ok(())
+}
+
+/// Does the steps with a book.
+fn play_steps<N: Named, A: HeapAllocator>(
+    alloc: Global,
+    mut book: Book<N, A>,
+    shared: &Shared<A>,
+    steps: &[Step],
+    refuses: bool,
+) -> Result<Played, Fail>
+    requires { (shared.now.table ≡ N.table) × (shared.now.cells ≡ N.cells) }
+{
+    let mut played = Played::new(alloc, None);
+    tell_steps(alloc, &mut book, shared, steps, refuses, &mut played)?;
+    show(&book, &mut played.happened, &mut played.lines)?;
+    Ok(played)
+}
+
+/// What is known where there is no book.
+fn not_made(alloc: Global, call: Refused, error: PoolError) -> Result<Played, Fail> {
+    let mut played = Played::new(alloc, Some(call));
+    played.told.push(Told::Refused(error))?;
+    Ok(played)
 }
 
 /// Does the steps with a book of these names.
-fn book_of<N: Named>(
+fn book_of<N: Named, A: HeapAllocator>(
     alloc: Global,
-    shared: &Shared<Global>,
-    seat: CoreSeat<Global>,
-    code: Code<Global>,
+    heap: A,
+    shared: &Shared<A>,
+    seat: CoreSeat<A>,
+    code: Code<A>,
     workers: u8,
     limit: u32,
     steps: &[Step],
+    refuses: bool,
 ) -> Result<Played, Fail>
     requires shared { (shared.now.table ≡ N.table) × (shared.now.cells ≡ N.cells) }
     requires seat { (seat.table ≡ shared.now.table) × (seat.view ≡ new_core shared.now.tasks) }
     requires tasks { shared.now.tasks ≡ task_count (calls_of code) }
     requires named { (calls_of code ≡ N.calls) × (workers ≡ N.workers) }
 {
-    let mut book = Book::<N, Global>::new(alloc, shared, seat, code, workers, limit)?;
-    let told = tell_steps(&mut book, alloc, shared, steps)?;
-    let happened = happenings_of(alloc, &book)?;
-    let lines = book.lines().to_vec(alloc)?;
-    Ok(Played {
-        told,
-        happened,
-        lines,
-    })
+    match Book::<N, A>::new(heap, shared, seat, code, workers, limit) {
+        Ok(book) => play_steps(alloc, book, shared, steps, refuses),
+        Err(error) => not_made(alloc, Refused::Book, error),
+    }
 }
 
 /// Does the steps with a new book for this code.
-fn play_code(
+fn play_code<A: HeapAllocator>(
     alloc: Global,
-    code: Code<Global>,
+    heap: A,
+    code: Code<A>,
     workers: u8,
     limit: u32,
     steps: &[Step],
+    refuses: bool,
 ) -> Result<Played, Fail> {
-    let (shared, seat) = Shared::new(alloc, code.tasks())?;
-    book_of::<Brand>(alloc, &shared, seat, code, workers, limit, steps)
+    match Shared::new(heap, code.tasks()) {
+        Ok((shared, seat)) => {
+            book_of::<Brand, _>(
+                alloc, heap, &shared, seat, code, workers, limit, steps, refuses,
+            )
+        }
+        Err(error) => not_made(alloc, Refused::Shared, error),
+    }
 }
 
 /// The text of some lines.
@@ -393,7 +493,20 @@ fn check_lines(
 fn plays(rt: &(impl Abort + AllocGlobal), row: &Row<'_>, limit: u32) -> Result<(), Fail> {
     let alloc = rt.alloc();
     let steps = read_steps(alloc, row.script)?;
-    let played = play_code(alloc, code_of(alloc, row.plan)?, 1, limit, &steps)?;
+    let code = code_of(alloc, row.plan)?;
+    check_played(
+        rt,
+        row,
+        &play_code(alloc, alloc, code, 1, limit, &steps, false)?,
+    )
+}
+
+/// Checks what is told of each step of a row, and the text of the lines.
+fn check_played(
+    rt: &(impl Abort + AllocGlobal),
+    row: &Row<'_>,
+    played: &Played,
+) -> Result<(), Fail> {
     are_told(rt, row.name, &played.told, row.script)?;
     check_lines(rt, row.name, &played.lines, row.trace)
 }

@@ -11,7 +11,7 @@ mod usage;
 ghost use Rattle.std.specs.Prelude.{◌≤◌, length};
 ghost use Rattle.trace_check.specs.Standing.{most_bytes};
 
-use crate::plan_texts::plan_of;
+use crate::plan_texts::{code_of, plan_of};
 use plan_read::Plan;
 use std::alloc::{AllocError, Allocator, Global};
 use std::process::Abort;

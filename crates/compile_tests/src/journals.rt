@@ -1,8 +1,8 @@
 //! The journal of calls, and where its room is refused.
 mod plans;
 
+use crate::calls::read_plan;
 use call_journal::{CallLine, Journal, MadeCall, plan_text};
-use plan_read::read_plan;
 use refusing_allocator::Refusing;
 use std::alloc::{AllocError, Allocator, Global};
 use std::process::Abort;

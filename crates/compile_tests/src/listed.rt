@@ -4,9 +4,10 @@ mod plans;
 mod usage;
 mod writers;
 
-use byte_ends::Writing;
+use byte_ends::{Sink, Writing};
+use heap_allocator::HeapAllocator;
 use plan_list::write_tasks;
-use plan_read::{PlanFault, PlanFaultKind, read_plan};
+use plan_read::{PlanFault, PlanFaultKind};
 use sched_engine::RunError;
 use std::alloc::Global;
 use std::process::Abort;
@@ -52,9 +53,14 @@ const ITS_TASKS: &str = "\
 9 nor-this fixed submitted 201 refused illegal
 ";
 
+/// Writes the tasks of a plan. All tests do it through this: what it ensures is then looked at once.
+fn write<A: HeapAllocator, W: Sink>(alloc: A, plan: &str, writer: &mut W) -> Result<(), RunError> {
+    Ok(write_tasks(alloc, plan.as_bytes(), writer)?)
+}
+
 /// What the writing of a plan's tasks answered, and what it wrote.
 fn written(alloc: Global, plan: &str) -> (Result<(), RunError>, Vec<u8>) {
     let mut writer = Writing::new(Vec::new(alloc));
-    let answer = write_tasks(alloc, plan.as_bytes(), &mut writer).map_err(RunError::from);
+    let answer = write(alloc, plan, &mut writer);
     (answer, writer.into_inner())
 }

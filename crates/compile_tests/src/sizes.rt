@@ -1,7 +1,6 @@
 //! A plan as large as plans may be: nothing gives up for want of memory on what real use brings.
-use plan_compile::compile;
-use plan_read::read_plan;
-use queue_code::{Code, CodeCall, Cursor, listing};
+use crate::calls::{compile, listing, read_plan};
+use queue_code::{Code, CodeCall, Cursor};
 use std::alloc::Global;
 use std::fmt::Write;
 use std::test::Fail;

@@ -1,8 +1,8 @@
 //! The submissions of plans, and their names.
+use crate::calls::read_plan;
 use crate::listed::EACH_KIND;
 use executor_model::Kind;
 use plan_compile::{Submissions, names_of_tasks};
-use plan_read::read_plan;
 use refusing_allocator::Refusing;
 use std::test::Fail;
 

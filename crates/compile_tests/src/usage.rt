@@ -1,7 +1,7 @@
 //! The examples of the comments, as they stand there: `tools/docs` compares them.
-use plan_compile::compile;
-use plan_read::{migrate, read_plan};
-use queue_code::{CodeCall, Cursor, listing};
+use crate::calls::{compile, listing, read_plan};
+use plan_read::migrate;
+use queue_code::{CodeCall, Cursor};
 use std::test::Fail;
 
 #[test]

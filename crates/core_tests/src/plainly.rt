@@ -49,3 +49,42 @@ fn calls_come_where_they_are_put(rt: HostRuntime) -> Result<(), Fail> {
     assert!(rt; said.as_str() == SAID, "{said}");
     Ok(())
 }
+
+/// What is said of two tasks that are cancelled while they wait, and of the purges that take them out of the queue.
+const PURGED: &str = "\
+0 Answer(Submit { task: 0, kind: Schedule, due: 4 })
+0 Answer(Submit { task: 1, kind: Schedule, due: 6 })
+0 Answer(Cancel { task: 0, effect: Yes })
+0 Answer(Ask { queue: 2, running: 0, shutdown: false, terminated: false })
+0 Answer(Purge)
+0 Answer(Ask { queue: 1, running: 0, shutdown: false, terminated: false })
+0 Answer(Shutdown)
+0 Answer(Outside { task: 1, effect: Yes })
+0 Answer(Purge)
+0 Answer(Ask { queue: 0, running: 0, shutdown: true, terminated: true })
+";
+
+/// Two tasks, of which the first is cancelled by a call.
+const PURGED_CALLS: &str = "submit 0 4\nsubmit 0 6\ncancel 0 0\nask 0\nask 0\nshut_down 0\nask 0";
+
+/// What happens: a purge before a question, and one behind the shutdown.
+const PURGES: &[Happening] = &[
+    Happening::Call,
+    Happening::Call,
+    Happening::Call,
+    Happening::Call,
+    Happening::Purge,
+    Happening::Call,
+    Happening::Call,
+    Happening::Cancel(1),
+    Happening::Purge,
+    Happening::Call,
+];
+
+#[test]
+fn purges_take_what_is_kept(rt: HostRuntime) -> Result<(), Fail> {
+    let lines = plain_lines(rt.alloc(), PURGED_CALLS, PURGES)?;
+    let said = text_of_lines(rt.alloc(), &lines)?;
+    assert!(rt; said.as_str() == PURGED, "{said}");
+    Ok(())
+}

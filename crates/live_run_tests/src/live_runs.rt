@@ -25,27 +25,27 @@ fn ran(alloc: Global, workers: u8, input: &str, most: usize) -> (Answer, Vec<u8>
 }
 
 /// Checks what a run by one worker answers and writes, whose input is read at once and a few bytes at a time.
-fn answers(rt: &(impl AllocGlobal + Abort), input: &str, wanted: Answer, trace: &str) {
+fn answers(rt: &(impl AllocGlobal + Abort), name: &str, input: &str, wanted: Answer, trace: &str) {
     for most in [65_536usize, 1, 2, 7] {
         let (answer, written) = ran(rt.alloc(), 1, input, most);
-        assert!(rt; answer == wanted, "{input}: {answer:?}");
-        assert!(rt; written.as_slice() == trace.as_bytes(), "{input}");
+        assert!(rt; answer == wanted, "{name}: {answer:?}");
+        assert!(rt; written.as_slice() == trace.as_bytes(), "{name}");
     }
 }
 
 /// Checks the trace of an input that is taken whole.
-fn traces(rt: &(impl AllocGlobal + Abort), input: &str, trace: &str) {
+fn traces(rt: &(impl AllocGlobal + Abort), name: &str, input: &str, trace: &str) {
     let report = LiveReport {
         lines_read: input.lines().count() as u64,
         lines_written: trace.lines().count() as u64,
     };
-    answers(rt, input, Ok(report), trace)
+    answers(rt, name, input, Ok(report), trace)
 }
 
-#[test]
-fn each_kind_of_line_is_answered(rt: HostRuntime) {
-    traces(
-        &rt,
+/// Names of inputs that are taken whole, these, and their traces.
+const TAKEN: &[(&str, &str, &str)] = &[
+    (
+        "EACH_KIND_OF_LINE_IS_ANSWERED",
         "call schedule 5\ncall execute\nclock 0\nstart 0\nfinish 0 ok 7\n\
          call rate 2 3\ncall fixed 1 4\ncall policy remove true\ncall cancel 3\ncancel 0\ncall ask\n\
          cancel 9\ncall shutdown\ncall shutdown\ncall execute\ncall shutdown_now\ncall ask\n",
@@ -55,75 +55,68 @@ fn each_kind_of_line_is_answered(rt: HostRuntime) {
          1 outside 0 yes\n1 ask queue 1 running 0 shutdown no terminated no\n\
          1 error no task\n1 shutdown\n1 end 2\n1 shutdown again\n1 refuse 4 rejected\n\
          1 shutdown now\n1 ask queue 0 running 0 shutdown yes terminated yes\n",
-    )
-}
-
-#[test]
-fn a_call_comes_after_the_last_clock(rt: HostRuntime) {
-    traces(
-        &rt,
+    ),
+    (
+        "A_CALL_COMES_AFTER_THE_LAST_CLOCK",
         "clock 5\ncall execute\nclock 4\ncall execute\nclock 6\ncall ask\n",
         "5 clock\n6 submit 0 schedule due 6\n6 error backward\n6 submit 1 schedule due 6\n6 clock\n\
          7 ask queue 2 running 0 shutdown no terminated no\n",
-    )
-}
-
-#[test]
-fn a_cancel_of_a_number_given_out_later_cancels_nothing(rt: HostRuntime) {
-    traces(
-        &rt,
+    ),
+    (
+        "A_CANCEL_OF_A_NUMBER_GIVEN_OUT_LATER_CANCELS_NOTHING",
         "cancel 0\ncall schedule 5\ncall ask\n",
         "0 error no task\n0 submit 0 schedule due 5\n\
          0 ask queue 1 running 0 shutdown no terminated no\n",
-    )
-}
-
-#[test]
-fn a_call_that_cancels_a_number_not_given_out_is_the_event(rt: HostRuntime) {
-    traces(
-        &rt,
+    ),
+    (
+        "A_CALL_THAT_CANCELS_A_NUMBER_NOT_GIVEN_OUT_IS_THE_EVENT",
         "call cancel 1\nclock 3\ncall schedule 5\ncall cancel 1\ncall execute\ncall cancel 1\n\
          call cancel 4294967295\ncall ask\n",
         "0 error no task\n3 clock\n4 submit 0 schedule due 9\n4 error no task\n\
          4 submit 1 schedule due 4\n4 cancel 1 yes\n4 error no task\n\
          4 ask queue 2 running 0 shutdown no terminated no\n",
-    )
-}
-
-#[test]
-fn a_cancel_of_a_number_not_given_out_has_room_behind_the_last_moment(rt: HostRuntime) {
-    traces(
-        &rt,
+    ),
+    (
+        "A_CANCEL_OF_A_NUMBER_NOT_GIVEN_OUT_HAS_ROOM_BEHIND_THE_LAST_MOMENT",
         "clock 4611686018427387904\ncall cancel 0\n",
         "4611686018427387904 clock\n4611686018427387904 error no task\n",
-    )
+    ),
+];
+
+#[test]
+fn each_input_is_answered(rt: HostRuntime) {
+    for (name, input, trace) in TAKEN {
+        traces(&rt, name, input, trace);
+    }
 }
 
 /// The trace of a first line that is taken.
 const FIRST: &str = "0 submit 0 schedule due 0\n";
 
-/// An input, the line of it that is refused, and the trace of those before it.
-const REFUSED: &[(&str, u64, &str)] = &[
-    ("call execute\nfoo\nclock 1\n", 2, FIRST),
-    ("call execute\ncall", 2, FIRST),
-    ("call cancel 00\n", 1, ""),
-    ("call cancel 4294967296\n", 1, ""),
-    ("call rate 1 0\n", 1, ""),
-    ("clock 01\n", 1, ""),
+/// An input of which a line is refused, or for which there is no room behind the last moment, why, and the trace of the lines before.
+const REFUSED: &[(&str, RunError, &str)] = &[
+    (
+        "call execute\nfoo\nclock 1\n",
+        RunError::EventLine(2),
+        FIRST,
+    ),
+    ("call execute\ncall", RunError::EventLine(2), FIRST),
+    ("call cancel 00\n", RunError::EventLine(1), ""),
+    ("call cancel 4294967296\n", RunError::EventLine(1), ""),
+    ("call rate 1 0\n", RunError::EventLine(1), ""),
+    ("clock 01\n", RunError::EventLine(1), ""),
+    (
+        "clock 4611686018427387904\ncall ask\ncall ask\n",
+        RunError::Full,
+        "4611686018427387904 clock\n",
+    ),
 ];
 
 #[test]
 fn other_lines_are_refused(rt: HostRuntime) {
-    for (input, line, trace) in REFUSED {
-        answers(&rt, input, Err(RunError::EventLine(*line)), trace)
+    for (input, error, trace) in REFUSED {
+        answers(&rt, input, input, Err(*error), trace);
     }
-}
-
-#[test]
-fn there_is_no_room_behind_the_last_moment(rt: HostRuntime) {
-    let input = "clock 4611686018427387904\ncall ask\ncall ask\n";
-    let trace = "4611686018427387904 clock\n";
-    answers(&rt, input, Err(RunError::Full), trace)
 }
 
 #[test]
@@ -197,14 +190,16 @@ fn refused(alloc: Global, input: &str, most: usize, growth: u64) -> (bool, Answe
     (heap.has_refused(), answer, writer.into_inner())
 }
 
-/// An input whose last line is not taken, the lines before it, and why it is not.
-const NOT_TAKEN: &[(&str, &str, RunError)] = &[
-    ("", "call cancel 00\n", RunError::EventLine(1)),
+/// An input whose last line is none, or one for which there is no room, or a cancel of a number not given out, which is an event;
+/// the lines before it, and why it is not taken.
+const ASKING_ALIKE: &[(&str, &str, Option<RunError>)] = &[
+    ("", "call cancel 00\n", Some(RunError::EventLine(1))),
     (
         "clock 4611686018427387904\n",
         "clock 4611686018427387904\ncall ask\n",
-        RunError::Full,
+        Some(RunError::Full),
     ),
+    ("", "call cancel 0\n", None),
 ];
 
 /// Checks that an input asks for this growth where the lines before do, and what it then answers.
@@ -213,33 +208,25 @@ fn asks_alike(
     before: &str,
     input: &str,
     growth: u64,
-    error: RunError,
+    error: Option<RunError>,
 ) {
     let (is_met_before, _, _) = refused(rt.alloc(), before, 65_536, growth);
     let (is_met, answer, _) = refused(rt.alloc(), input, 65_536, growth);
     assert!(rt; is_met == is_met_before, "{input}: {growth}");
-    let told = if is_met { RunError::Memory } else { error };
-    assert!(rt; answer == Err(told), "{input}: {growth}: {answer:?}");
+    let told = if is_met {
+        Some(RunError::Memory)
+    } else {
+        error
+    };
+    assert!(rt; answer.err() == told, "{input}: {growth}");
 }
 
-/// A line that is none, and one for which there is no room, ask for no memory.
 #[test]
-fn a_line_that_is_not_taken_asks_for_no_memory(rt: HostRuntime) {
-    for (before, input, error) in NOT_TAKEN {
+fn some_lines_ask_for_no_memory(rt: HostRuntime) {
+    for (before, input, error) in ASKING_ALIKE {
         for growth in 1..20u64 {
             asks_alike(&rt, before, input, growth, *error);
         }
-    }
-}
-
-/// A call that cancels a number not given out asks for no memory, as it is an event.
-#[test]
-fn a_cancel_of_a_number_not_given_out_asks_for_no_memory(rt: HostRuntime) {
-    for growth in 1..20u64 {
-        let (is_met_before, _, _) = refused(rt.alloc(), "", 65_536, growth);
-        let (is_met, answer, _) = refused(rt.alloc(), "call cancel 0\n", 65_536, growth);
-        assert!(rt; is_met == is_met_before, "{growth}");
-        assert!(rt; is_met == answer.is_err(), "{growth}: {answer:?}");
     }
 }
 

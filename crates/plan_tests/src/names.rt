@@ -13,24 +13,24 @@ fn the_page_is_run(rt: HostRuntime) {
     // end of example
 }
 
-#[test]
-fn a_name_keeps_its_text(rt: HostRuntime) {
-    for text in ["a", "Z", "back-up_7", "0123456789abcdefghijklmnopqrstuv"] {
-        assert!(rt; is_name(text));
-        assert!(rt; Name::new(text).as_str() == text, "{text}");
-    }
-}
+/// Texts, and whether they are names.
+const TEXTS: &[(&str, bool)] = &[
+    ("a", true),
+    ("Z", true),
+    ("back-up_7", true),
+    ("0123456789abcdefghijklmnopqrstuv", true),
+    ("", false),
+    (" ", false),
+    ("a b", false),
+    ("a.b", false),
+    ("\u{e9}", false),
+    ("0123456789abcdefghijklmnopqrstuvw", false),
+];
 
 #[test]
-fn other_texts_are_no_names(rt: HostRuntime) {
-    for text in [
-        "",
-        " ",
-        "a b",
-        "a.b",
-        "\u{e9}",
-        "0123456789abcdefghijklmnopqrstuvw",
-    ] {
-        assert!(rt; !is_name(text), "{text}");
+fn a_name_keeps_its_text_and_other_texts_are_none(rt: HostRuntime) {
+    for (text, is_one) in TEXTS {
+        let keeps = is_name(text) && Name::new(text).as_str() == *text;
+        assert!(rt; keeps == *is_one, "{text}");
     }
 }

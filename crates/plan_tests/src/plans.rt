@@ -19,7 +19,7 @@ mod units;
 use parts::Kept;
 use plan_read::{Block, Call, Op, Plan, PlanFault, PlanFaultKind, migrate, read_plan};
 use sched_time::Span;
-use std::alloc::Global;
+use std::alloc::{AllocError, Global};
 use std::process::Abort;
 use std::test::Fail;
 
@@ -63,11 +63,23 @@ fn told(alloc: Global, text: &str) -> Result<String, Fail> {
     }
 }
 
-/// A text that a row spells: ` / ` stands between its lines, and signs for a newline, a return, a tab and a byte order mark.
-fn spelled(alloc: Global, row: &str) -> Result<String, Fail> {
-    let mut text = row.replace(alloc, " / ", "\n")?;
-    for (sign, meant) in [("⏎", "\n"), ("␍", "\r"), ("␉", "\t"), ("⊕", "\u{feff}")] {
-        text = text.as_str().replace(alloc, sign, meant)?;
+/// Signs of a row for a newline, a return, a tab and a byte order mark.
+fn meant(sign: char) -> char {
+    match sign {
+        '⏎' => '\n',
+        '␍' => '\r',
+        '␉' => '\t',
+        '⊕' => '\u{feff}',
+        other => other,
+    }
+}
+
+/// A text that a row spells: ` / ` stands between its lines, and signs for some characters.
+fn spelled(alloc: Global, row: &str) -> Result<String, AllocError> {
+    let lines = row.replace(alloc, " / ", "⏎")?;
+    let mut text = String::new(alloc);
+    for sign in lines.as_str().chars() {
+        text.push(meant(sign))?;
     }
     Ok(text)
 }
@@ -97,7 +109,7 @@ fn tells_spelled(
     fault: &str,
 ) -> Result<(), Fail> {
     let text = spelled(rt.alloc(), row)?;
-    let text = format!(in rt.alloc(); "{front}{text}")?;
+    let text = [front, text.as_str()].concat(rt.alloc())?;
     tells_row(rt, row, text.as_str(), fault)
 }
 
@@ -109,7 +121,7 @@ fn tells_pair(
     second: &str,
     fault: &str,
 ) -> Result<(), Fail> {
-    let row = format!(in rt.alloc(); "{first} / {second}")?;
+    let row = [first, " / ", second].concat(rt.alloc())?;
     tells_spelled(rt, front, row.as_str(), fault)
 }
 

@@ -60,19 +60,13 @@ fn ran<R: Threads + Wait + Sync>(
     (answer, writer.into_inner())
 }
 
-/// Checks the answer and the bytes of a run by one worker, read at once and a few bytes at a time.
-fn answers<R: Threads + Wait + Sync + AllocGlobal + Abort>(
-    rt: &R,
-    plan: &str,
-    limit: u32,
-    clocks: &str,
-    answer: Result<Report, RunError>,
-    trace: &str,
-) {
+/// Checks the answer and the bytes of a run, read at once and a few bytes at a time.
+fn answers<R: Threads + Wait + Sync + AllocGlobal + Abort>(rt: &R, row: &Wanted<'_>) {
+    let name = row.name;
     for most in [65_536usize, 1, 7] {
-        let (told, text) = ran(rt, rt.alloc(), plan, 1, limit, clocks, most);
-        assert!(rt; told == answer, "{clocks}: {told:?}");
-        assert!(rt; text.as_slice() == trace.as_bytes(), "{clocks}");
+        let (told, text) = ran(rt, rt.alloc(), row.plan, 1, row.limit, row.clocks, most);
+        assert!(rt; told == row.answer, "{name}: {told:?}");
+        assert!(rt; text.as_slice() == row.trace.as_bytes(), "{name}");
     }
 }
 
@@ -131,33 +125,66 @@ fn conforms(
     Ok(())
 }
 
-#[test]
-fn writes_the_trace(rt: HostRuntime) -> Result<(), Fail> {
-    answers(&rt, ONE_DELAY, 4, CLOCKS, Ok(REPORT), TRACE);
-    conforms(&rt, ONE_DELAY, 1, TRACE.as_bytes())?;
-    answers(&rt, ONE_DELAY, 1, "", Ok(report(0, 0)), "");
-    let clocks = "clock 5\nclock 4\nclock 4611686018427387905\n";
-    let trace = "5 clock\n5 error backward\n5 error too far\n";
-    answers(&rt, "version = 1", 3, clocks, Ok(report(3, 3)), trace);
-    Ok(())
+/// A run by one worker, and what it comes to.
+#[derive(Clone, Copy)]
+struct Wanted<'a> {
+    name: &'a str,
+    plan: &'a str,
+    limit: u32,
+    clocks: &'a str,
+    answer: Result<Report, RunError>,
+    trace: &'a str,
 }
 
-/// The clock shows a moment once all that is due at the one before has run; and the value is the run's number, not the task's.
-#[test]
-fn a_clock_waits_for_the_moment_before(rt: HostRuntime) {
-    answers(
-        &rt,
-        "version = 1
+/// Runs of all kinds, and limits that end the run of the example, with the lines up to there.
+const RUNS: &[Wanted<'static>] = &[
+    Wanted {
+        name: "THE_EXAMPLE",
+        plan: ONE_DELAY,
+        limit: 4,
+        clocks: CLOCKS,
+        answer: Ok(REPORT),
+        trace: TRACE,
+    },
+    Wanted {
+        name: "NO_CLOCK",
+        plan: ONE_DELAY,
+        limit: 1,
+        clocks: "",
+        answer: Ok(Report {
+            events: 0,
+            lines: 0,
+        }),
+        trace: "",
+    },
+    Wanted {
+        name: "CLOCKS_THAT_ARE_NOT_ACCEPTED",
+        plan: "version = 1",
+        limit: 3,
+        clocks: "clock 5\nclock 4\nclock 4611686018427387905\n",
+        answer: Ok(Report {
+            events: 3,
+            lines: 3,
+        }),
+        trace: "5 clock\n5 error backward\n5 error too far\n",
+    },
+    // The clock shows a moment once all that is due at the one before has run; and the value is the run's number, not the task's.
+    Wanted {
+        name: "A_CLOCK_WAITS_FOR_THE_MOMENT_BEFORE",
+        plan: "version = 1
 [[block]]
 call = [
   { op = \"schedule\", name = \"a\", delay = 0 },
   { op = \"schedule\", name = \"b\", delay = 5 },
 ]
 ",
-        100,
-        CLOCKS,
-        Ok(report(6, 8)),
-        "0 submit 0 schedule due 0
+        limit: 100,
+        clocks: CLOCKS,
+        answer: Ok(Report {
+            events: 6,
+            lines: 8,
+        }),
+        trace: "0 submit 0 schedule due 0
 0 submit 1 schedule due 5
 0 clock
 0 start 0 task 0 run 0 due 0
@@ -166,15 +193,11 @@ call = [
 5 start 0 task 1 run 0 due 5
 5 finish 0 task 1 run 0 done 0
 ",
-    );
-}
-
-/// The run of a task that goes on at a fixed rate has the number of the run for its value, and goes on until nothing is due.
-#[test]
-fn runs_what_is_due_at_each_moment(rt: HostRuntime) {
-    answers(
-        &rt,
-        "version = 1
+    },
+    // The run of a task that goes on at a fixed rate has the number of the run for its value, and goes on until nothing is due.
+    Wanted {
+        name: "RUNS_WHAT_IS_DUE_AT_EACH_MOMENT",
+        plan: "version = 1
 [[block]]
 call = [
   { op = \"rate\", name = \"a\", first = 1, period = 2 },
@@ -182,10 +205,13 @@ call = [
   { at = 4, op = \"ask\" },
 ]
 ",
-        100,
-        "clock 3\nclock 9\n",
-        Ok(report(6, 10)),
-        "0 submit 0 rate due 1
+        limit: 100,
+        clocks: "clock 3\nclock 9\n",
+        answer: Ok(Report {
+            events: 6,
+            lines: 10,
+        }),
+        trace: "0 submit 0 rate due 1
 3 clock
 3 start 0 task 0 run 0 due 1
 3 finish 0 task 0 run 0 again due 3
@@ -196,26 +222,64 @@ call = [
 4 ask queue 0 running 0 shutdown yes terminated yes
 9 clock
 ",
-    );
-}
-
-/// Limits and clocks of the example that end its run, and the lines up to there.
-const FULL: &[(u32, &str, &str)] = &[
-    (
-        3,
-        CLOCKS,
-        "0 submit 0 schedule due 5\n0 clock\n5 clock\n5 start 0 task 0 run 0 due 5\n",
-    ),
-    (2, CLOCKS, "0 submit 0 schedule due 5\n0 clock\n5 clock\n"),
-    (1, CLOCKS, ""),
-    (2, "clock 0\nclock 5\nclock 5\n", ""),
+    },
+    Wanted {
+        name: "A_LIMIT_OF_3",
+        plan: ONE_DELAY,
+        limit: 3,
+        clocks: CLOCKS,
+        answer: Err(RunError::Full),
+        trace: "0 submit 0 schedule due 5\n0 clock\n5 clock\n5 start 0 task 0 run 0 due 5\n",
+    },
+    Wanted {
+        name: "A_LIMIT_OF_2",
+        plan: ONE_DELAY,
+        limit: 2,
+        clocks: CLOCKS,
+        answer: Err(RunError::Full),
+        trace: "0 submit 0 schedule due 5\n0 clock\n5 clock\n",
+    },
+    Wanted {
+        name: "A_LIMIT_OF_1",
+        plan: ONE_DELAY,
+        limit: 1,
+        clocks: CLOCKS,
+        answer: Err(RunError::Full),
+        trace: "",
+    },
+    Wanted {
+        name: "A_LIMIT_ON_CLOCKS",
+        plan: ONE_DELAY,
+        limit: 2,
+        clocks: "clock 0\nclock 5\nclock 5\n",
+        answer: Err(RunError::Full),
+        trace: "",
+    },
+    // Limits of one event, and the first fault of the two.
+    Wanted {
+        name: "THE_LIMIT_BEFORE_A_LINE",
+        plan: ONE_DELAY,
+        limit: 1,
+        clocks: "clock 0\nclock 5\nstart 0\n",
+        answer: Err(RunError::Full),
+        trace: "",
+    },
+    Wanted {
+        name: "A_LINE_BEFORE_THE_LIMIT",
+        plan: ONE_DELAY,
+        limit: 1,
+        clocks: "clock 0\nstart 0\nclock 5\n",
+        answer: Err(RunError::EventLine(2)),
+        trace: "",
+    },
 ];
 
 #[test]
-fn ends_at_the_limit(rt: HostRuntime) {
-    for (limit, clocks, trace) in FULL {
-        answers(&rt, ONE_DELAY, *limit, clocks, Err(RunError::Full), trace);
+fn each_run_is_answered(rt: HostRuntime) -> Result<(), Fail> {
+    for row in RUNS {
+        answers(&rt, row);
     }
+    conforms(&rt, ONE_DELAY, 1, TRACE.as_bytes())
 }
 
 /// Lines that are no clock.
@@ -236,18 +300,19 @@ const NO_CLOCKS: &[&str] = &[
 /// Clocks, and the number of the line behind them.
 const FRONTS: &[(&str, u64)] = &[("", 1), ("clock 0\n", 2), ("clock 0\nclock 9\n", 3)];
 
-/// Limits of one event, and the first fault of the two.
-const FIRST_FAULTS: &[(&str, RunError)] = &[
-    ("clock 0\nclock 5\nstart 0\n", RunError::Full),
-    ("clock 0\nstart 0\nclock 5\n", RunError::EventLine(2)),
-];
-
 /// Checks that a run ends at a line behind each of the fronts.
 fn ends_at<R: Threads + Wait + Sync + AllocGlobal + Abort>(rt: &R, line: &str) -> Result<(), Fail> {
     for (front, number) in FRONTS {
         let clocks = format!(in rt.alloc(); "{front}{line}")?;
-        let answer = Err(RunError::EventLine(*number));
-        answers(rt, ONE_DELAY, 2, clocks.as_str(), answer, "");
+        let row = Wanted {
+            name: line,
+            plan: ONE_DELAY,
+            limit: 2,
+            clocks: clocks.as_str(),
+            answer: Err(RunError::EventLine(*number)),
+            trace: "",
+        };
+        answers(rt, &row);
     }
     Ok(())
 }
@@ -256,9 +321,6 @@ fn ends_at<R: Threads + Wait + Sync + AllocGlobal + Abort>(rt: &R, line: &str) -
 fn ends_at_a_line_that_is_no_clock(rt: HostRuntime) -> Result<(), Fail> {
     for line in NO_CLOCKS {
         ends_at(&rt, line)?;
-    }
-    for (clocks, fault) in FIRST_FAULTS {
-        answers(&rt, ONE_DELAY, 1, clocks, Err(*fault), "");
     }
     Ok(())
 }

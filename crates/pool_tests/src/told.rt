@@ -61,7 +61,7 @@ fn text_of(alloc: Global, lines: &[Line]) -> Result<Vec<u8>, Fail> {
 }
 
 /// What is found of the text of some lines, held against a plan.
-pub fn found(
+fn found(
     rt: &impl Abort,
     alloc: Global,
     plan: &Plan<Global>,
@@ -71,6 +71,18 @@ pub fn found(
     let text = text_of(alloc, lines)?;
     assert!(rt; text.len() <= MOST_BYTES);
     Ok(check(alloc, plan, workers, &text)?)
+}
+
+/// Checks some lines by the plan alone.
+pub fn conforms(
+    rt: &(impl Abort + AllocGlobal),
+    plan: &Plan<Global>,
+    workers: u8,
+    lines: &[Line],
+) -> Result<(), Fail> {
+    let finding = found(rt, rt.alloc(), plan, workers, lines)?;
+    assert!(rt; finding == Finding::Conforms, "{finding:?}");
+    Ok(())
 }
 
 /// Checks the text of the lines.

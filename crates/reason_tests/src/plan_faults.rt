@@ -10,11 +10,9 @@ mod times;
 mod tops;
 mod words;
 
-use crate::tables::{before_bar, behind_bar, table_of, text_of_row};
 use plan_read::{HeapAllocator, PlanFault, read_plan};
 use plan_reasons::Reason;
 use std::alloc::{AllocError, Global};
-use std::process::Abort;
 use std::test::Fail;
 
 /// That of the crate. All tests find reasons through it: what it ensures is then looked at once.
@@ -32,7 +30,7 @@ fn fault(alloc: Global, text: &[u8]) -> Option<PlanFault> {
 
 /// What is told of the text of a file `p`: `fine`, or the reason in one line. It is "another fault" where the fault is not that
 /// of `read_plan`.
-fn told(alloc: Global, text: &str) -> Result<String, AllocError> {
+pub fn told(alloc: Global, text: &str) -> Result<String, AllocError> {
     let text = text.as_bytes();
     let fault = fault(alloc, text);
     let Some(reason) = reason_of(alloc, text) else {
@@ -73,8 +71,8 @@ fn the_page_is_run(rt: HostRuntime) -> Result<(), Fail> {
     Ok(())
 }
 
-/// All tables of texts of plans, which `table_of` takes apart.
-const TABLES: &[&str] = &[
+/// All tables of texts of plans.
+pub const TABLES: &[&str] = &[
     calls::TABLES,
     documents::TABLES,
     headers::TABLES,
@@ -85,33 +83,3 @@ const TABLES: &[&str] = &[
     tops::TABLES,
     words::TABLES,
 ];
-
-/// What is told of the text of a row behind this front.
-fn told_of_row(alloc: Global, front: &str, row: &str) -> Result<String, AllocError> {
-    let text = text_of_row(alloc, front, behind_bar(row))?;
-    told(alloc, text.as_str())
-}
-
-/// Tells of each text of a table.
-fn tell_table(rt: &(impl AllocGlobal + Abort), table: &str) -> Result<(), Fail> {
-    let table = table_of(table)?;
-    for row in table.rows.lines() {
-        let told = told_of_row(rt.alloc(), table.front, row)?;
-        assert!(rt;
-            told.as_str() == before_bar(row),
-            "{}: {row}: {told}",
-            table.name
-        );
-    }
-    Ok(())
-}
-
-#[test]
-fn each_row_is_told(rt: HostRuntime) -> Result<(), Fail> {
-    for tables in TABLES {
-        for table in tables.split("\n\n") {
-            tell_table(&rt, table)?;
-        }
-    }
-    Ok(())
-}

@@ -13,7 +13,7 @@ ghost use Rattle.std.specs.Prelude.{◌≤◌, length};
 ghost use Rattle.trace_check.specs.Standing.{most_bytes};
 
 use crate::plan_texts::plan_of;
-use crate::tables::{before_bar, behind_bar, table_of, text_of_row};
+use crate::tables::Tables;
 use plan_read::Plan;
 use std::alloc::{Allocator, Global};
 use std::process::Abort;
@@ -50,7 +50,7 @@ fn answered(
 }
 
 /// What is told of a text in a file `p`, held against a plan with this many workers: `conforms`, or the reason in one line.
-fn told(
+pub fn told(
     rt: &(impl AllocGlobal + Abort),
     plan: &str,
     workers: u8,
@@ -59,15 +59,8 @@ fn told(
     Ok(answered(rt, plan, workers, text)??)
 }
 
-/// Tables of texts that are held against a plan, which `table_of` takes apart.
-struct Tables {
-    plan: &'static str,
-    workers: u8,
-    tables: &'static str,
-}
-
-/// All tables.
-const TABLES: &[Tables] = &[
+/// All tables of texts of traces.
+pub const TABLES: &[Tables] = &[
     Tables {
         plan: ONE_DELAY,
         workers: 1,
@@ -99,6 +92,11 @@ const TABLES: &[Tables] = &[
         tables: events::OF_A_RATE,
     },
     Tables {
+        plan: events::A_KEPT_TASK,
+        workers: 1,
+        tables: events::OF_A_KEPT_TASK,
+    },
+    Tables {
         plan: ONE_DELAY,
         workers: 1,
         tables: shown::TABLES,
@@ -119,41 +117,6 @@ const TABLES: &[Tables] = &[
         tables: workers::OF_THREE,
     },
 ];
-
-/// What is told of the text of a row behind this front, held against the plan of its tables.
-fn told_of_row(
-    rt: &(impl AllocGlobal + Abort),
-    tables: &Tables,
-    front: &str,
-    row: &str,
-) -> Result<String, Fail> {
-    let text = text_of_row(rt.alloc(), front, behind_bar(row))?;
-    told(rt, tables.plan, tables.workers, text.as_bytes())
-}
-
-/// Tells of each text of a table.
-fn tell_table(rt: &(impl AllocGlobal + Abort), tables: &Tables, table: &str) -> Result<(), Fail> {
-    let table = table_of(table)?;
-    for row in table.rows.lines() {
-        let told = told_of_row(rt, tables, table.front, row)?;
-        assert!(rt;
-            told.as_str() == before_bar(row),
-            "{}: {row}: {told}",
-            table.name
-        );
-    }
-    Ok(())
-}
-
-#[test]
-fn each_row_is_told(rt: HostRuntime) -> Result<(), Fail> {
-    for tables in TABLES {
-        for table in tables.tables.split("\n\n") {
-            tell_table(&rt, tables, table)?;
-        }
-    }
-    Ok(())
-}
 
 /// A task that runs once, 5 nanoseconds later.
 const ONE_DELAY: &str = "\

@@ -6,11 +6,9 @@ mod units;
 mod unused;
 
 use crate::plan_texts::plan_of;
-use crate::tables::{before_bar, behind_bar, table_of, text_of_row};
 use plan_read::{HeapAllocator, Plan};
 use plan_warnings::Warning;
 use std::alloc::{AllocError, Global};
-use std::process::Abort;
 use std::test::Fail;
 
 /// That of the crate. All tests find warnings through it: what it ensures is then looked at once.
@@ -42,7 +40,7 @@ fn joined<A: HeapAllocator>(
 }
 
 /// What is told of the text of a file `p`, which is a plan.
-fn told(alloc: Global, text: &str) -> Result<String, Fail> {
+pub fn told(alloc: Global, text: &str) -> Result<String, Fail> {
     let plan = plan_of(alloc, text)?;
     let warnings = warnings_of(alloc, &plan, text.as_bytes())?;
     Ok(joined(alloc, &warnings)?)
@@ -65,35 +63,10 @@ fn the_page_is_run(rt: HostRuntime) -> Result<(), Fail> {
     Ok(())
 }
 
-/// All tables of texts of plans, which `table_of` takes apart.
-const TABLES: &[&str] = &[
+/// All tables of texts of plans.
+pub const TABLES: &[&str] = &[
     forms::TABLES,
     refusals::TABLES,
     units::TABLES,
     unused::TABLES,
 ];
-
-/// Tells of each text of a table.
-fn tell_table(rt: &(impl AllocGlobal + Abort), table: &str) -> Result<(), Fail> {
-    let table = table_of(table)?;
-    for row in table.rows.lines() {
-        let text = text_of_row(rt.alloc(), table.front, behind_bar(row))?;
-        let told = told(rt.alloc(), text.as_str())?;
-        assert!(rt;
-            told.as_str() == before_bar(row),
-            "{}: {row}: {told}",
-            table.name
-        );
-    }
-    Ok(())
-}
-
-#[test]
-fn each_row_is_told(rt: HostRuntime) -> Result<(), Fail> {
-    for tables in TABLES {
-        for table in tables.split("\n\n") {
-            tell_table(&rt, table)?;
-        }
-    }
-    Ok(())
-}

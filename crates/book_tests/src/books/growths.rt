@@ -3,34 +3,21 @@
 //! What is refused, and counted, is what the words, the core, the lists of a book and the notes ask of their allocator. The
 //! boxes of verdicts are asked of the heap to which the allocator leads, which grants them, and cells give them back to it.
 ghost use Rattle.std.specs.Prelude.{◌≡◌};
-ghost use Rattle.queue_code.specs.Calls.{task_count};
-ghost use Rattle.queue_code.specs.Codes.{calls_of};
-ghost use Rattle.task_word.specs.Views.{new_core};
 
-use super::{Handles, Row, Step, Told, check_lines, is_told, read_steps, step_of};
+use super::{
+    Handles, Played, Refused, Row, Step, Told, check_played, play_code, read_steps, step_of,
+};
 use heap_allocator::HeapAllocator;
 use plan_compile::compile;
 use plan_read::read_plan;
-use queue_code::Code;
 use refusing_allocator::Refusing;
-use std::alloc::{AllocGlobal, Global};
-use std::marker::Brand;
+use std::alloc::{AllocError, AllocGlobal, Global};
 use std::process::Abort;
 use std::test::Fail;
-use task_word::CoreSeat;
 use worker_pool::{Book, Named, PoolError, Shared};
 
 /// A row has so many tasks at most.
 const MOST_TASKS: u32 = 2;
-
-/// A call that was refused a growth.
-#[derive(Clone, Copy, Debug, PartialEq, Eq)]
-enum Refused {
-    Shared,
-    Book,
-    /// A step, by its place in the row.
-    Step(usize),
-}
 
 /// Plays a row with its first growth refused, then with its second and so on, until no growth of that number is asked for.
 /// Each time the call that was refused tells want of memory and changes nothing that is shown, and is made again; all else that is told, and the lines,
@@ -75,6 +62,20 @@ fn refused_call(
     Ok(refused)
 }
 
+/// Plays a row over a heap.
+fn play_over(
+    alloc: Global,
+    heap: &Refusing<Global>,
+    row: &Row<'_>,
+    number: u64,
+) -> Result<Played, Fail> {
+    let steps = read_steps(alloc, row.script)?;
+    let plan = read_plan(alloc, row.plan.as_bytes())?;
+    let code = compile(heap, &plan)?;
+    heap.refuse(number);
+    play_code(alloc, heap, code, 1, 100, &steps, true)
+}
+
 /// Does so over this heap.
 fn call_refused_by(
     rt: &(impl AllocGlobal + Abort),
@@ -82,75 +83,17 @@ fn call_refused_by(
     row: &Row<'_>,
     number: u64,
 ) -> Result<Option<Refused>, Fail> {
-    let plan = read_plan(rt.alloc(), row.plan.as_bytes())?;
-    let code = compile(heap, &plan)?;
-    heap.refuse(number);
-    let refused = play_over(rt, heap, code, row)?;
+    let played = play_over(rt.alloc(), heap, row, number)?;
+    let refused = played.refused;
     if matches!(refused, Some(Refused::Shared | Refused::Book)) {
         // What was handed in is dropped, so all is made anew.
-        let code = compile(heap, &plan)?;
-        assert!(rt; play_over(rt, heap, code, row)?.is_none());
+        assert!(rt; matches!(played.told.first(), Some(Told::Refused(PoolError::Memory))));
+        let again = play_over(rt.alloc(), heap, row, 0)?;
+        assert!(rt; again.refused.is_none());
+        check_played(rt, row, &again)?;
+    } else {
+        check_played(rt, row, &played)?;
     }
-    Ok(refused)
-}
-
-/// Plays a row with new words and a new book, and tells which call was refused a growth, if any was.
-fn play_over<'h>(
-    rt: &(impl AllocGlobal + Abort),
-    heap: &'h Refusing<Global>,
-    code: Code<&'h Refusing<Global>>,
-    row: &Row<'_>,
-) -> Result<Option<Refused>, Fail> {
-    match Shared::new(heap, code.tasks()) {
-        Ok((shared, seat)) => play_book::<Brand, _>(rt, heap, &shared, seat, code, row),
-        Err(error) => {
-            assert!(rt; error == PoolError::Memory);
-            Ok(Some(Refused::Shared))
-        }
-    }
-}
-
-/// Plays a row with a new book of these names.
-fn play_book<N: Named, A: HeapAllocator>(
-    rt: &(impl AllocGlobal + Abort),
-    alloc: A,
-    shared: &Shared<A>,
-    seat: CoreSeat<A>,
-    code: Code<A>,
-    row: &Row<'_>,
-) -> Result<Option<Refused>, Fail>
-    requires shared { (shared.now.table ≡ N.table) × (shared.now.cells ≡ N.cells) }
-    requires seat { (seat.table ≡ shared.now.table) × (seat.view ≡ new_core shared.now.tasks) }
-    requires tasks { shared.now.tasks ≡ task_count (calls_of code) }
-    requires named { (calls_of code ≡ N.calls) × (1 ≡ N.workers) }
-{
-    match Book::<N, A>::new(alloc, shared, seat, code, 1, 100) {
-        Ok(mut book) => play_steps(rt, &mut book, shared, row),
-        Err(error) => {
-            assert!(rt; error == PoolError::Memory);
-            Ok(Some(Refused::Book))
-        }
-    }
-}
-
-/// Does the steps of a row, and tells which one was refused a growth, if any was.
-fn play_steps<N: Named, A: HeapAllocator>(
-    rt: &(impl AllocGlobal + Abort),
-    book: &mut Book<N, A>,
-    shared: &Shared<A>,
-    row: &Row<'_>,
-) -> Result<Option<Refused>, Fail>
-    requires { (shared.now.table ≡ N.table) × (shared.now.cells ≡ N.cells) }
-{
-    let steps = read_steps(rt.alloc(), row.script)?;
-    let mut handles = Vec::new(rt.alloc());
-    let mut refused = None;
-    for (place, (step, line)) in steps.iter().zip(row.script.lines()).enumerate() {
-        if is_done_again(rt, book, shared, &mut handles, *step, line)? {
-            refused = Some(Refused::Step(place));
-        }
-    }
-    check_lines(rt, row.name, book.lines(), row.trace)?;
     Ok(refused)
 }
 
@@ -158,7 +101,7 @@ fn play_steps<N: Named, A: HeapAllocator>(
 fn book_shows<N: Named, A: HeapAllocator>(
     alloc: Global,
     book: &Book<N, A>,
-) -> Result<String, Fail> {
+) -> Result<String, AllocError> {
     let mut shown = format!(in alloc; "{} ", book.ripe())?;
     for kept in book.happenings() {
         write!(shown, "{:?} ", kept.happening())?;
@@ -174,7 +117,7 @@ fn shown_by<N: Named, A: HeapAllocator>(
     alloc: Global,
     book: &Book<N, A>,
     handles: &mut Handles<'_, N, A>,
-) -> Result<String, Fail> {
+) -> Result<String, AllocError> {
     let mut shown = book_shows(alloc, book)?;
     for handle in handles.iter_mut().flatten() {
         for task in 0..MOST_TASKS {
@@ -184,42 +127,26 @@ fn shown_by<N: Named, A: HeapAllocator>(
     Ok(shown)
 }
 
-/// Does a step that was refused a growth once more: until then all is shown as before.
-fn do_again<'s, N: Named, A: HeapAllocator>(
-    rt: &(impl AllocGlobal + Abort),
+/// Does a step, and once more where memory was wanting: until then all is shown as before.
+pub fn step_again<'s, N: Named, A: HeapAllocator>(
+    alloc: Global,
     book: &mut Book<N, A>,
     shared: &'s Shared<A>,
     handles: &mut Handles<'s, N, A>,
     step: Step,
-    before: &str,
+    played: &mut Played,
 ) -> Result<Told, Fail>
     requires { (shared.now.table ≡ N.table) × (shared.now.cells ≡ N.cells) }
 {
-    let after = shown_by(rt.alloc(), book, handles)?;
-    assert!(rt;
-        after.as_str() == before,
-        "a refused call has changed what is shown"
-    );
-    step_of(book, shared, handles, step)
-}
-
-/// Does the step of a line, and once more where memory was wanting; tells whether it was.
-fn is_done_again<'s, N: Named, A: HeapAllocator>(
-    rt: &(impl AllocGlobal + Abort),
-    book: &mut Book<N, A>,
-    shared: &'s Shared<A>,
-    handles: &mut Handles<'s, N, A>,
-    step: Step,
-    line: &str,
-) -> Result<bool, Fail>
-    requires { (shared.now.table ≡ N.table) × (shared.now.cells ≡ N.cells) }
-{
-    let before = shown_by(rt.alloc(), book, handles)?;
-    let mut told = step_of(book, shared, handles, step)?;
-    let is_refused = matches!(told, Told::Refused(PoolError::Memory));
-    if is_refused {
-        told = do_again(rt, book, shared, handles, step, before.as_str())?;
+    let before = shown_by(alloc, book, handles)?;
+    let told = step_of(book, shared, handles, step)?;
+    if !matches!(told, Told::Refused(PoolError::Memory)) {
+        return Ok(told);
     }
-    is_told(rt, "with a growth refused", &told, line)?;
-    Ok(is_refused)
+    played.refused = Some(Refused::Step(played.told.len()));
+    let after = shown_by(alloc, book, handles)?;
+    if after.as_str() != before.as_str() {
+        return Err("a refused call has changed what is shown".into());
+    }
+    Ok(step_of(book, shared, handles, step)?)
 }

@@ -100,7 +100,7 @@ fn the_seats_are_given_again(rt: HostRuntime) -> Result<(), Fail> {
     let admitted = "admit | Admitted\n".repeat(rt.alloc(), 63)?;
     let behind =
         "admit | Refused(Seats)\nretire 5 | Retired\nadmit | Admitted\nadmit | Refused(Seats)\n";
-    let script = format!(in rt.alloc(); "{admitted}{behind}")?;
+    let script = [admitted.as_str(), behind].concat(rt.alloc())?;
     let row = Row {
         name: "the seats are given again",
         plan: ONE_TASK,
@@ -142,8 +142,8 @@ const LOOKS: &[(&str, &str)] = &[
 
 /// Checks what nine cancels come to where this step is behind them, with these lines of its own.
 fn plays_cancels(rt: &(impl Abort + AllocGlobal), last: &str, behind: &str) -> Result<(), Fail> {
-    let script = format!(in rt.alloc(); "{NINE_CANCELS}{last}\n")?;
-    let trace = format!(in rt.alloc(); "{NINE_LINES}{behind}")?;
+    let script = [NINE_CANCELS, last, "\n"].concat(rt.alloc())?;
+    let trace = [NINE_LINES, behind].concat(rt.alloc())?;
     let row = Row {
         name: last,
         plan: NINE,

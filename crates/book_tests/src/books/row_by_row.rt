@@ -9,7 +9,8 @@ use std::test::Fail;
 fn answers(rt: &(impl Abort + AllocGlobal), row: &Row) -> Result<(), Fail> {
     let alloc = rt.alloc();
     let steps = read_steps(alloc, row.events)?;
-    let played = play_code(alloc, code_of(alloc, row.plan)?, row.workers, AMPLE, &steps)?;
+    let code = code_of(alloc, row.plan)?;
+    let played = play_code(alloc, alloc, code, row.workers, AMPLE, &steps, false)?;
     check_lines(rt, row.name, &played.lines, row.trace)
 }
 

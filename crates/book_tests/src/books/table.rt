@@ -117,7 +117,8 @@ fn compare(
     steps: &[Step],
     number: u32,
 ) -> Result<(), Fail> {
-    let played = play_code(alloc, compile(alloc, plan)?, 1, 100, steps)?;
+    let code = compile(alloc, plan)?;
+    let played = play_code(alloc, alloc, code, 1, 100, steps, false)?;
     let finding = found(rt, alloc, plan, 1, &played.lines)?;
     assert!(rt; finding == Finding::Conforms, "{number}: {finding:?}");
     let plain = plain_lines(alloc, plan, &played.happened)?;

@@ -1,6 +1,7 @@
 //! Texts that are no trace of a plan, beside some that are one.
 use super::*;
 use scripted_runs::Row;
+use scripted_runs::kept::A_KEPT_TASK;
 use scripted_runs::runs::{NO_OVERLAP, ONE_DELAY, TWO_WORKERS};
 use scripted_runs::shutdown::A_SWEEP;
 use scripted_runs::stopping::{A_SHUTDOWN_AT_ONCE, A_SHUTDOWN_AT_ONCE_AFTER_A_SHUTDOWN};
@@ -14,7 +15,7 @@ struct Texts {
     rows: &'static [(&'static [&'static str], Finding)],
 }
 
-/// All of them.
+/// Those of other lines, calls and ends.
 const TEXTS: &[Texts] = &[
     Texts {
         name: "another line",
@@ -35,6 +36,10 @@ const TEXTS: &[Texts] = &[
         front: BEFORE_THE_ENDS,
         rows: ENDS,
     },
+];
+
+/// Those of shutdowns at once, and of what comes after.
+const TEXTS_AT_ONCE: &[Texts] = &[
     // The line of a shutdown at once, and those of the tasks that it ends.
     Texts {
         name: "ends of a shutdown at once",
@@ -55,6 +60,13 @@ const TEXTS: &[Texts] = &[
         row: A_SHUTDOWN_AT_ONCE_AFTER_A_SHUTDOWN,
         front: "0 submit 0 rate due 5\n0 policy continue true\n1 shutdown\n",
         rows: SHUTDOWNS_OF_BOTH_KINDS,
+    },
+    // A task that is kept once it is cancelled, and an ask.
+    Texts {
+        name: "purges",
+        row: A_KEPT_TASK,
+        front: "0 submit 0 schedule due 10\n2 cancel 0 yes\n",
+        rows: PURGES,
     },
 ];
 
@@ -213,6 +225,23 @@ const SHUTDOWNS_OF_BOTH_KINDS: &[(&[&str], Finding)] = &[
     (&["2 shutdown now\n3 shutdown again\n"], Finding::Breaks(5)),
 ];
 
+const ONE_KEPT: &str = "3 ask queue 1 running 0 shutdown no terminated no\n";
+
+const NONE_KEPT: &str = "3 ask queue 0 running 0 shutdown no terminated no\n";
+
+const PURGES: &[(&[&str], Finding)] = &[
+    (&["2 purge\n", NONE_KEPT, "3 purge\n"], Finding::Conforms),
+    (&["2 purge\n2 purge\n"], Finding::Conforms),
+    (&[ONE_KEPT, "3 purge\n15 clock\n"], Finding::Conforms),
+    // What a purge took out of the queue is counted no more.
+    (&["2 purge\n", ONE_KEPT], Finding::Breaks(4)),
+    (&[NONE_KEPT, "3 purge\n"], Finding::Breaks(3)),
+    // A purge moves no clock.
+    (&["3 purge\n", NONE_KEPT], Finding::Breaks(3)),
+    (&["1 purge\n"], Finding::Breaks(3)),
+    (&["2 purge 0\n"], Finding::Breaks(3)),
+];
+
 /// Checks what is found of each of some texts.
 fn finds(rt: &(impl AllocGlobal + Abort), texts: &Texts) -> Result<(), Fail> {
     for (parts, wanted) in texts.rows {
@@ -226,6 +255,14 @@ fn finds(rt: &(impl AllocGlobal + Abort), texts: &Texts) -> Result<(), Fail> {
 #[test]
 fn each_text_is_found_so(rt: HostRuntime) -> Result<(), Fail> {
     for texts in TEXTS {
+        finds(&rt, texts)?;
+    }
+    Ok(())
+}
+
+#[test]
+fn each_text_of_a_shutdown_at_once_is_found_so(rt: HostRuntime) -> Result<(), Fail> {
+    for texts in TEXTS_AT_ONCE {
         finds(&rt, texts)?;
     }
     Ok(())

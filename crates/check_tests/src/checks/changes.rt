@@ -6,7 +6,6 @@ ghost use Rattle.queue_code.specs.Calls.{IsPlanned};
 use super::plainly::plain_finding;
 use super::*;
 use executor_plain::planned_calls;
-use plan_compile::compile;
 use queue_code::CodeCall;
 use sched_time::{Timing, Which};
 use scripted_runs::Row;
@@ -171,49 +170,64 @@ fn finds_line_changes(
     Ok(())
 }
 
-/// How often a task runs: `once`, or `rate` or `fixed` with the nanoseconds from one run to the next.
-fn timing_words(alloc: Global, timing: Timing) -> Result<String, AllocError> {
+/// Adds how often a task runs: `once`, or `rate` or `fixed` with the nanoseconds from one run to the next.
+fn add_timing(text: &mut String, timing: Timing) -> Result<(), Fail> {
     match timing {
-        Timing::Once => String::from_str(alloc, "once"),
-        Timing::Rate(period) => format!(in alloc; "rate {}", period.nanos()),
-        Timing::Fixed(delay) => format!(in alloc; "fixed {}", delay.nanos()),
+        Timing::Once => text.push_str("once")?,
+        Timing::Rate(period) => write!(text, "rate {}", period.nanos())?,
+        Timing::Fixed(delay) => write!(text, "fixed {}", delay.nanos())?,
+    }
+    Ok(())
+}
+
+/// Adds a submission, as `submit TASK TIMING DELAY`.
+fn add_submission(text: &mut String, task: u32, timing: Timing, delay: u64) -> Result<(), Fail> {
+    write!(text, "submit {task} ")?;
+    add_timing(text, timing)?;
+    write!(text, " {delay}")?;
+    Ok(())
+}
+
+/// The word of a policy.
+fn word_of(which: Which) -> &'static str {
+    match which {
+        Which::Continue => "continue",
+        Which::Execute => "execute",
+        Which::Remove => "remove",
     }
 }
 
-/// A call, as `submit TASK TIMING DELAY`, `cancel TASK`, `POLICY VALUE`, `shutdown`, `shutdown now` or `ask`.
-fn call_words(alloc: Global, call: CodeCall) -> Result<String, AllocError> {
+/// Adds a call, as a submission, `illegal TASK`, `cancel TASK`, `POLICY VALUE`, `shutdown`, `shutdown now` or `ask`.
+fn add_call(text: &mut String, call: CodeCall) -> Result<(), Fail> {
     match call {
         CodeCall::Submit {
             task,
             timing,
             delay,
-        } => {
-            let timing = timing_words(alloc, timing)?;
-            format!(in alloc; "submit {task} {timing} {delay}")
-        }
-        CodeCall::Illegal { task } => format!(in alloc; "illegal {task}"),
-        CodeCall::Cancel { task } => format!(in alloc; "cancel {task}"),
-        CodeCall::SetPolicy { which, value } => {
-            let which = match which {
-                Which::Continue => "continue",
-                Which::Execute => "execute",
-                Which::Remove => "remove",
-            };
-            format!(in alloc; "{which} {value}")
-        }
-        CodeCall::Shutdown => String::from_str(alloc, "shutdown"),
-        CodeCall::ShutdownNow => String::from_str(alloc, "shutdown now"),
-        CodeCall::Ask => String::from_str(alloc, "ask"),
+        } => add_submission(text, task, timing, delay)?,
+        CodeCall::Illegal { task } => write!(text, "illegal {task}")?,
+        CodeCall::Cancel { task } => write!(text, "cancel {task}")?,
+        CodeCall::SetPolicy { which, value } => write!(text, "{} {value}", word_of(which))?,
+        CodeCall::Shutdown => text.push_str("shutdown")?,
+        CodeCall::ShutdownNow => text.push_str("shutdown now")?,
+        CodeCall::Ask => text.push_str("ask")?,
     }
+    Ok(())
+}
+
+/// Adds a call with its moment, as a line.
+fn add_made(text: &mut String, moment: u64, call: CodeCall) -> Result<(), Fail> {
+    write!(text, "{moment} ")?;
+    add_call(text, call)?;
+    text.push('\n')?;
+    Ok(())
 }
 
 /// Calls, each a line: its moment and its words.
-fn calls_text(alloc: Global, calls: &[(u64, CodeCall)]) -> Result<String, AllocError> {
+fn calls_text(alloc: Global, calls: &[(u64, CodeCall)]) -> Result<String, Fail> {
     let mut text = String::new(alloc);
     for (moment, call) in calls {
-        let words = call_words(alloc, *call)?;
-        let line = format!(in alloc; "{moment} {words}")?;
-        add_line(&mut text, &line)?;
+        add_made(&mut text, *moment, *call)?;
     }
     Ok(text)
 }
@@ -222,7 +236,7 @@ fn calls_text(alloc: Global, calls: &[(u64, CodeCall)]) -> Result<String, AllocE
 fn calls_of_plan(alloc: Global, plan: &Plan<Global>) -> Result<Vec<(u64, CodeCall)>, Fail>
     ensures { IfOk result (λ calls. IsPlanned calls.items) }
 {
-    let code = compile(alloc, plan)?;
+    let code = code_of(alloc, plan)?;
     let count = code.calls();
     let made = planned_calls(alloc, &code)?;
     if made.len() != count as usize {
@@ -261,6 +275,19 @@ fn finds_changes(
     finds_trace_changes(rt, &plan, &made, row, conforming)
 }
 
+/// A task that is kept once it is cancelled, with a trace of purges, which no event is.
+const PURGES: Row = Row {
+    name: "purges",
+    plan: "version = 1\nblock = [{ call = [\
+           { op = 'schedule', name = 'a', delay = 10 },\
+           { at = 2, op = 'cancel', name = 'a' },\
+           { at = 3, op = 'ask' }] }]",
+    workers: 1,
+    events: "",
+    trace: "0 purge\n0 submit 0 schedule due 10\n2 cancel 0 yes\n2 purge\n\
+            3 ask queue 0 running 0 shutdown no terminated no\n3 purge\n",
+};
+
 /// A row, its calls as `calls_text` writes them, and how many of the texts that differ from its trace by one byte conform.
 const ROWS: &[(Row, &str, usize)] = &[
     // The value of the last line may be 0 as well, and 99.
@@ -295,6 +322,7 @@ const ROWS: &[(Row, &str, usize)] = &[
         0,
     ),
     (A_CANCEL_OF_A_RUN, "0 submit 0 rate 5 0\n", 0),
+    (PURGES, "0 submit 0 once 10\n2 cancel 0\n3 ask\n", 0),
     // The value 2 may be 0, 9 and 22 as well.
     (ERRORS, "0 submit 0 once 0\n", 3),
     // The last run may be worker 0's as well.

@@ -107,6 +107,7 @@ fn plain_happening(workers: u8, before: &[Line], moment: u64, answer: Answer) ->
             ..
         } => Happening::Finish(worker, ending_of(outcome)),
         Answer::Outside { task, .. } => Happening::Cancel(task),
+        Answer::Purge => Happening::Purge,
         Answer::Error(EventError::Backward) => Happening::Clock(0),
         Answer::Error(EventError::TooFar) => Happening::Clock(LONGEST + 1),
         Answer::Error(EventError::NoWorker) => Happening::Start(255),

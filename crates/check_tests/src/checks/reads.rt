@@ -1,9 +1,24 @@
 //! The lines that a check hands on.
+ghost use Rattle.std.specs.Prelude.{◌≤◌, length};
+ghost use Rattle.trace_check.specs.Standing.{most_bytes};
+
 use super::*;
+use executor_model::Line;
 use linked_list_allocator::LocalHeap;
 use scripted_runs::shutdown::A_SWEEP;
-use trace_check::check_and_read;
 use trace_text::write_line;
+
+/// That of the crate, as `check` is.
+fn check_and_read<A: Allocator + Copy>(
+    alloc: A,
+    plan: &Plan<Global>,
+    workers: u8,
+    text: &[u8],
+) -> Result<(Finding, Vec<Line, A>), CheckError>
+    requires { length text.now ≤ most_bytes }
+{
+    trace_check::check_and_read(alloc, plan, workers, text)
+}
 
 /// What is found of a text, and the text of the lines that were read of it.
 fn read(rt: &(impl AllocGlobal + Abort), text: &str) -> Result<(Finding, Vec<u8>), Fail> {

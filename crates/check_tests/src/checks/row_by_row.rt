@@ -4,15 +4,14 @@ use super::*;
 use executor_core::{Core, CoreError};
 use executor_model::{Event, Line};
 use executor_plain::{planned_calls, trace};
-use plan_compile::compile;
 use queue_code::Code;
 use scripted_runs::{Row, TOPICS, topic};
 use trace_text::{read_event, write_line};
 
 /// The code of a row's plan.
-fn code_of(alloc: Global, row: &Row) -> Result<Code<Global>, Fail> {
+fn code_of_row(alloc: Global, row: &Row) -> Result<Code<Global>, Fail> {
     let plan = plan_of(alloc, row.plan)?;
-    Ok(compile(alloc, &plan)?)
+    code_of(alloc, &plan)
 }
 
 /// The events of a row.
@@ -65,7 +64,7 @@ fn answers_of(
 
 /// Checks that a core gives the trace of a row.
 fn core_gives(rt: &(impl AllocGlobal + Abort), row: &Row) -> Result<(), Fail> {
-    let code = code_of(rt.alloc(), row)?;
+    let code = code_of_row(rt.alloc(), row)?;
     let events = events_of(rt, row)?;
     let lines = answers_of(rt.alloc(), code, row.workers, &events)?;
     is_trace(rt, row, &lines)
@@ -73,7 +72,7 @@ fn core_gives(rt: &(impl AllocGlobal + Abort), row: &Row) -> Result<(), Fail> {
 
 /// Checks that the plain program gives the trace of a row.
 fn plain_gives(rt: &(impl AllocGlobal + Abort), row: &Row) -> Result<(), Fail> {
-    let code = code_of(rt.alloc(), row)?;
+    let code = code_of_row(rt.alloc(), row)?;
     // The calls are in order, as the plain program asks.
     let _count = code.calls();
     let made = planned_calls(rt.alloc(), &code)?;

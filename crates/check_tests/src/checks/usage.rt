@@ -1,6 +1,6 @@
 //! The examples of the comments, as they stand there: `tools/docs` compares them.
 use super::check;
-use plan_read::read_plan;
+use crate::plan_texts::read_plan;
 use scripted_runs::runs::ONE_DELAY;
 use std::test::Fail;
 use trace_check::{CheckError, Finding, MOST_BYTES};

@@ -1,5 +1,6 @@
 //! Memory: how much is taken, and where it is refused.
 use super::*;
+use crate::calls::read_plan;
 use refusing_allocator::Refusing;
 use std::io;
 use std::io::Write;
@@ -40,7 +41,7 @@ fn tallied(rt: &(impl AllocGlobal + Abort), plan: &str) -> (usize, usize) {
         taken: 0,
         most_used: 0,
     });
-    let answer = write_tasks(&heap, plan.as_bytes(), &mut writer).map_err(RunError::from);
+    let answer = write(&heap, plan, &mut writer);
     assert!(rt; answer == Ok(()), "{answer:?}");
     assert!(rt; heap.used() == 0);
     let tally = writer.into_inner();
@@ -88,7 +89,7 @@ fn is_refused(rt: &(impl AllocGlobal + Abort), number: u64) -> bool {
     let heap = Refusing::new(rt.alloc());
     heap.refuse(number);
     let mut writer = Writing::new(Vec::new(rt.alloc()));
-    let answer = write_tasks(&heap, EACH_KIND.as_bytes(), &mut writer).map_err(RunError::from);
+    let answer = write(&heap, EACH_KIND, &mut writer);
     let text = writer.into_inner();
     assert!(rt; heap.used() == 0, "{number}");
     if !heap.has_refused() {

@@ -1,8 +1,8 @@
 //! The examples of the comments, as they stand there: `tools/docs` compares them.
+use crate::calls::read_plan;
 use byte_ends::Writing;
 use plan_compile::names_of_tasks;
 use plan_list::write_tasks;
-use plan_read::read_plan;
 use std::test::Fail;
 
 #[test]

@@ -32,7 +32,7 @@ fn writes_nothing_of_a_text_that_is_no_plan(rt: HostRuntime) {
 /// how many bytes that is.
 fn scripted(alloc: Global, script: Script) -> (Result<(), RunError>, bool, usize) {
     let mut writer = Writing::new(Taking::new(alloc, script));
-    let answer = write_tasks(alloc, EACH_KIND.as_bytes(), &mut writer).map_err(RunError::from);
+    let answer = write(alloc, EACH_KIND, &mut writer);
     let end = writer.into_inner();
     let taken = end.taken();
     (answer, ITS_TASKS.as_bytes().starts_with(taken), taken.len())

@@ -20,15 +20,16 @@ plan¦¦ver¦sion = 1
 plan¦¦version = 1⏎[[blo¦ck]]"#;
 
 /// A text that has a control character between two pieces.
-fn with_control(alloc: Global, front: &str, code: u8, rest: &str) -> Result<String, Fail> {
+fn with_control(alloc: Global, front: &str, code: u8, rest: &str) -> Result<String, AllocError> {
     let mut text = spelled(alloc, front)?;
+    let rest = spelled(alloc, rest)?;
     text.push(char::from(code))?;
-    text.push_str(spelled(alloc, rest)?.as_str())?;
+    text.push_str(rest.as_str())?;
     Ok(text)
 }
 
 /// Whether a control character is one of those that a row spells.
-fn is_among(alloc: Global, row: &str, code: u8) -> Result<bool, Fail> {
+fn is_among(alloc: Global, row: &str, code: u8) -> Result<bool, AllocError> {
     Ok(spelled(alloc, row)?.as_bytes().contains(&code))
 }
 

@@ -84,13 +84,17 @@ const TOML: PlanFault = PlanFault {
     call: 0,
 };
 
+/// The fault of a text that has these bytes in a comment.
+fn fault_of_comment(alloc: Global, bytes: &[u8]) -> Result<Option<PlanFault>, AllocError> {
+    let text = [b"version = 1 #".as_slice(), bytes].concat(alloc)?;
+    Ok(read(alloc, &text).err())
+}
+
 #[test]
 fn refuses_bytes_that_are_not_utf_8(rt: HostRuntime) -> Result<(), Fail> {
     assert!(rt; read(rt.alloc(), b"\xff").err() == Some(TOML));
     for (bytes, is_utf_8) in COMMENTS {
-        let mut text = Vec::from_slice(rt.alloc(), b"version = 1 #")?;
-        text.extend_from_slice(bytes)?;
-        let fault = read(rt.alloc(), &text).err();
+        let fault = fault_of_comment(rt.alloc(), bytes)?;
         let expected = if *is_utf_8 { None } else { Some(TOML) };
         assert!(rt; fault == expected, "{bytes:?}");
     }

@@ -66,26 +66,53 @@ const SPOTS: &[Spot] = spots! {
     r#"[[block.call]] / op = "fixed" / name = "a" / first = 0"# "delay" at "block 1 call 1": "block 0 U 1 0 / 0 fixed a 0 T", "none", "none";
 };
 
-/// The text that has a time of a unit at a spot. Version 2 tells the unit beside the time; version 1 tells it at the block.
+/// A text of version 2, which tells the unit beside the time.
+fn beside<'t>(
+    alloc: Global,
+    front: &'t str,
+    key: &'t str,
+    time: &'t str,
+    word: &'t str,
+) -> Result<String, AllocError> {
+    let unit = [key, "_unit = \"", word, "\"\n"].concat(alloc)?;
+    [HEADER_2, front, "\n", key, " = ", time, "\n", unit.as_str()].concat(alloc)
+}
+
+/// A text of version 1, which tells the unit at the block.
+fn at_block<'t>(
+    alloc: Global,
+    front: &'t str,
+    key: &'t str,
+    time: &'t str,
+    word: &'t str,
+) -> Result<String, AllocError> {
+    let unit = ["unit = \"", word, "\"\n"].concat(alloc)?;
+    [HEADER, unit.as_str(), front, "\n", key, " = ", time, "\n"].concat(alloc)
+}
+
+/// The text that has a time of a unit at a spot.
 fn text_of_time(
     alloc: Global,
     is_beside: bool,
     unit: &Unit,
     spot: &Spot,
     time: &str,
-) -> Result<String, Fail> {
+) -> Result<String, AllocError> {
     let front = spelled(alloc, spot.front)?;
-    let (word, key) = (unit.word, spot.key);
-    let text = if is_beside {
-        format!(in alloc; "{HEADER_2}{front}\n{key} = {time}\n{key}_unit = \"{word}\"\n")?
+    if is_beside {
+        beside(alloc, front.as_str(), spot.key, time, unit.word)
     } else {
-        format!(in alloc; "{HEADER}unit = \"{word}\"\n{front}\n{key} = {time}\n")?
-    };
-    Ok(text)
+        at_block(alloc, front.as_str(), spot.key, time, unit.word)
+    }
 }
 
 /// What a plan has at a spot, whose block shows this unit, of a time that it keeps as `kept`.
-fn lines_of_time(alloc: Global, shown: &str, spot: &Spot, kept: &str) -> Result<String, Fail> {
+fn lines_of_time(
+    alloc: Global,
+    shown: &str,
+    spot: &Spot,
+    kept: &str,
+) -> Result<String, AllocError> {
     let lines = spot.lines.replace(alloc, "U", shown)?;
     let lines = lines.as_str().replace(alloc, "T", kept)?;
     let mut lines = spelled(alloc, lines.as_str())?;

@@ -13,11 +13,17 @@ Ambiguous block 3 call 1 | times = 2 / every = 5 / call = [{ op = "schedule", na
 Ambiguous block 3 call 1 | times = 2 / every = 5 / call = [{ op = "schedule", name = "a", delay = 1 }] / [[block]] / at = 9 / [[block]] / at = 9 / call = [{ op = "cancel", name = "a", at = -1 }]
 UnknownName block 3 call 1 | times = 2 / every = 5 / call = [{ op = "schedule", name = "a", delay = 1 }] / [[block]] / at = 9 / [[block]] / at = 9 / call = [{ op = "cancel", name = "b", at = -1 }]"#;
 
+/// Lengths of names, and what is told of them.
+const LENGTHS: &[(usize, &str)] = &[(32, "plan"), (33, "BadName block 1 call 1")];
+
 #[test]
 fn takes_names_of_32_bytes(rt: HostRuntime) -> Result<(), Fail> {
-    for (length, fault) in [(32usize, "plan"), (33, "BadName block 1 call 1")] {
-        let name = "n".repeat(rt.alloc(), length)?;
-        let text = format!(in rt.alloc(); "{CALL}op = \"schedule\"\ndelay = 0\nname = \"{name}\"")?;
+    for (length, fault) in LENGTHS {
+        let name = "n".repeat(rt.alloc(), *length)?;
+        let name = name.as_str();
+        let text = [CALL, "op = \"schedule\"\ndelay = 0\nname = \"", name, "\""].concat(
+            rt.alloc(),
+        )?;
         tells(&rt, text.as_str(), fault)?;
     }
     Ok(())

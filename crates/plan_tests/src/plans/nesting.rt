@@ -54,8 +54,9 @@ fn pieced(alloc: Global, columns: &[&str]) -> Result<String, Fail> {
     let count = count.parse::<usize>()?;
     let pieces = piece.repeat(alloc, count)?;
     let closed = close.repeat(alloc, count)?;
-    let text = format!(in alloc; "version = 1\n{front}{pieces}{middle}{closed}")?;
-    spelled(alloc, text.as_str())
+    let (pieces, closed) = (pieces.as_str(), closed.as_str());
+    let text = ["version = 1\n", front, pieces, middle, closed].concat(alloc)?;
+    Ok(spelled(alloc, text.as_str())?)
 }
 
 /// Checks what is told of each text.

@@ -110,10 +110,8 @@ const FORMS: &str = "0 0
 fn reads_integers_in_each_form(rt: HostRuntime) -> Result<(), Fail> {
     for form in FORMS.lines() {
         let (written, value) = form.split_once(" ").ok_or("no integer")?;
-        let text = format!(in rt.alloc();
-            "{CALL}op = \"schedule\"\nname = \"a\"\ndelay = {written}"
-        )?;
-        let lines = format!(in rt.alloc(); "block 0 Ns 1 0\n0 schedule a {value}\n")?;
+        let text = [CALL, "op = \"schedule\"\nname = \"a\"\ndelay = ", written].concat(rt.alloc())?;
+        let lines = ["block 0 Ns 1 0\n0 schedule a ", value, "\n"].concat(rt.alloc())?;
         reads(&rt, form, text.as_str(), lines.as_str())?;
     }
     Ok(())

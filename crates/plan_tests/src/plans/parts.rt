@@ -51,14 +51,6 @@ const KEPT_PARTS: &[Kept<'_>] = &[
     times::NANOSECONDS_BESIDE_UNITS,
 ];
 
-#[test]
-fn keeps_each_part(rt: HostRuntime) -> Result<(), Fail> {
-    for row in KEPT_PARTS {
-        reads(&rt, row.name, row.text, row.lines)?;
-    }
-    Ok(())
-}
-
 /// Plans without calls, and times: the longest of each unit of version 1, and some in days. A row has what the plan keeps, ` | `, and
 /// the text.
 const KEPT: &str = r#" | version = 1
@@ -73,16 +65,24 @@ block 0 S 1 0 / 4611686018000000000 schedule a 4611686018000000000 | version = 1
 block 0 S 1 0 / 0 schedule a 0 | version = 1 / [[block]] / unit = "s" / call = [{ op = "schedule", name = "a", delay = -9223372036854775808 }]
 block 0 Ns 1 0 / 0 schedule a 4611600000000000000 | version = 2 / [[block]] / [[block.call]] / op = "schedule" / name = "a" / delay_unit = "d" / delay = 53375"#;
 
+/// Checks the plan of a row of `KEPT`.
+fn reads_row(rt: &(impl AllocGlobal + Abort), row: &str) -> Result<(), Fail> {
+    let (lines, text) = row.split_once(" | ").ok_or("no text")?;
+    let mut lines = spelled(rt.alloc(), lines)?;
+    if !lines.is_empty() {
+        lines.push('\n')?;
+    }
+    let text = spelled(rt.alloc(), text)?;
+    reads(rt, row, text.as_str(), lines.as_str())
+}
+
 #[test]
-fn keeps_plans_without_calls_and_times(rt: HostRuntime) -> Result<(), Fail> {
+fn keeps_each_part(rt: HostRuntime) -> Result<(), Fail> {
+    for row in KEPT_PARTS {
+        reads(&rt, row.name, row.text, row.lines)?;
+    }
     for row in KEPT.lines() {
-        let (lines, text) = row.split_once(" | ").ok_or("no text")?;
-        let mut lines = spelled(rt.alloc(), lines)?;
-        if !lines.is_empty() {
-            lines.push('\n')?;
-        }
-        let text = spelled(rt.alloc(), text)?;
-        reads(&rt, row, text.as_str(), lines.as_str())?;
+        reads_row(&rt, row)?;
     }
     Ok(())
 }

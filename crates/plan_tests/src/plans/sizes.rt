@@ -21,20 +21,30 @@ fn with_calls(rt: &impl AllocGlobal, blocks: u32, calls: u32) -> Result<String, 
     Ok(text)
 }
 
+/// Numbers of blocks, and of calls in each, that a plan may have.
+const TAKEN: &[(u32, u32)] = &[(2, 256), (256, 1)];
+
+/// Those that it may not have, and what is told of it.
+const TOO_MANY: &[(u32, u32, &str)] = &[
+    (1, 257, "TooMany block 1 call 0"),
+    (257, 0, "TooMany block 0 call 0"),
+];
+
 #[test]
-fn takes_256_calls_of_a_block(rt: HostRuntime) -> Result<(), Fail> {
-    let text = with_calls(&rt, 2, 256)?;
-    reads_sizes(&rt, text.as_str(), 2, 256)?;
-    let text = with_calls(&rt, 1, 257)?;
-    tells(&rt, text.as_str(), "TooMany block 1 call 0")
+fn takes_256_blocks_and_256_calls_of_a_block(rt: HostRuntime) -> Result<(), Fail> {
+    for (blocks, calls) in TAKEN {
+        let text = with_calls(&rt, *blocks, *calls)?;
+        reads_sizes(&rt, text.as_str(), *blocks as usize, *calls as usize)?;
+    }
+    for (blocks, calls, fault) in TOO_MANY {
+        let text = with_calls(&rt, *blocks, *calls)?;
+        tells(&rt, text.as_str(), fault)?;
+    }
+    Ok(())
 }
 
 #[test]
-fn takes_256_blocks(rt: HostRuntime) -> Result<(), Fail> {
-    let text = with_calls(&rt, 256, 1)?;
-    reads_sizes(&rt, text.as_str(), 256, 1)?;
-    let text = with_calls(&rt, 257, 0)?;
-    tells(&rt, text.as_str(), "TooMany block 0 call 0")?;
+fn tells_a_wrong_type_before_too_many_blocks(rt: HostRuntime) -> Result<(), Fail> {
     let blocks = "{},".repeat(rt.alloc(), 257)?;
     let text = format!(in rt.alloc(); "version = 1\nblock = [{blocks}1]")?;
     tells(&rt, text.as_str(), "WrongType block 0 call 0")

@@ -1,25 +1,23 @@
 //! Faults of the text and of the top: its length, its version and its keys.
 use super::*;
 
-#[test]
-fn refuses_long_texts(rt: HostRuntime) -> Result<(), Fail> {
-    for (byte, length, fault) in [
-        (" ", 1_048_577usize, "TooLong block 0 call 0"),
-        ("=", 1_048_577, "TooLong block 0 call 0"),
-        (" ", 1_048_576, "Version block 0 call 0"),
-    ] {
-        let text = byte.repeat(rt.alloc(), length)?;
-        tells(&rt, text.as_str(), fault)?;
-    }
-    Ok(())
-}
+/// What stands first in a text, the byte of which the rest is, how long the text is, and its fault.
+const LONG: &[(&str, &str, usize, &str)] = &[
+    ("", " ", 1_048_577, "TooLong block 0 call 0"),
+    ("", "=", 1_048_577, "TooLong block 0 call 0"),
+    ("", " ", 1_048_576, "Version block 0 call 0"),
+    ("version = 1", " ", 1_048_576, "plan"),
+];
 
 #[test]
 fn takes_a_plan_of_the_longest_text(rt: HostRuntime) -> Result<(), Fail> {
-    let rest = " ".repeat(rt.alloc(), 1_048_565)?;
-    let text = format!(in rt.alloc(); "version = 1{rest}")?;
-    assert!(rt; text.len() == 1_048_576);
-    tells(&rt, text.as_str(), "plan")
+    for (front, byte, length, fault) in LONG {
+        let rest = byte.repeat(rt.alloc(), length.saturating_sub(front.len()))?;
+        let text = format!(in rt.alloc(); "{front}{rest}")?;
+        assert!(rt; text.len() == *length);
+        tells(&rt, text.as_str(), fault)?;
+    }
+    Ok(())
 }
 
 /// Versions, and faults at the top.

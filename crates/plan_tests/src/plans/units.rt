@@ -48,14 +48,18 @@ at_unit first_unit delay_unit | op = "fixed" / name = "b" / first = 1 / delay = 
 
 /// What stands before the second call of a plan's only block.
 const SECOND_CALL: &str =
-    "[[block]]\n[[block.call]]\nop = \"execute\"\nname = \"a\"\n[[block.call]]\n";
+    "version = 1\n[[block]]\n[[block.call]]\nop = \"execute\"\nname = \"a\"\n[[block.call]]\n";
+
+/// The same in version 2.
+const SECOND_CALL_2: &str =
+    "version = 2\n[[block]]\n[[block.call]]\nop = \"execute\"\nname = \"a\"\n[[block.call]]\n";
 
 /// What is told of a value: that it is part of a plan of version 2, or a fault of this kind at a place.
-fn told_at(alloc: Global, kind: &str, place: &str) -> Result<String, Fail> {
+fn told_at(alloc: Global, kind: &str, place: &str) -> Result<String, AllocError> {
     if kind == "plan 2" {
-        return Ok(String::from_str(alloc, kind)?);
+        return String::from_str(alloc, kind);
     }
-    Ok(format!(in alloc; "{kind} {place}")?)
+    [kind, " ", place].concat(alloc)
 }
 
 /// Checks what is told of a table, at a place, that has each value at a unit key, which may or may not stand there.
@@ -101,28 +105,19 @@ fn tells_units(
     for table in tables.lines() {
         let (own, keys) = table.split_once(" | ").ok_or("no keys")?;
         let keys = spelled(rt.alloc(), keys)?;
-        let front = format!(in rt.alloc(); "{front}{keys}\n")?;
+        let front = [front, keys.as_str(), "\n"].concat(rt.alloc())?;
         let own = if has_own { own } else { "" };
         tells_unit_keys(rt, front.as_str(), place, own)?;
     }
     Ok(())
 }
 
+/// Headers and calls of version 2, and calls of version 1.
 #[test]
-fn a_header_of_version_2_has_a_unit_for_each_time(rt: HostRuntime) -> Result<(), Fail> {
-    tells_units(&rt, HEADER_2, "block 1 call 0", HEADERS, true)
-}
-
-#[test]
-fn a_call_of_version_2_has_a_unit_for_each_time(rt: HostRuntime) -> Result<(), Fail> {
-    let front = format!(in rt.alloc(); "version = 2\n{SECOND_CALL}")?;
-    tells_units(&rt, front.as_str(), "block 1 call 2", CALLS, true)
-}
-
-#[test]
-fn a_call_of_version_1_has_no_unit(rt: HostRuntime) -> Result<(), Fail> {
-    let front = format!(in rt.alloc(); "version = 1\n{SECOND_CALL}")?;
-    tells_units(&rt, front.as_str(), "block 1 call 2", CALLS, false)
+fn only_version_2_has_a_unit_for_each_time(rt: HostRuntime) -> Result<(), Fail> {
+    tells_units(&rt, HEADER_2, "block 1 call 0", HEADERS, true)?;
+    tells_units(&rt, SECOND_CALL_2, "block 1 call 2", CALLS, true)?;
+    tells_units(&rt, SECOND_CALL, "block 1 call 2", CALLS, false)
 }
 
 /// Headers of version 1: its one unit, which is none of the longer ones, and the unit keys of version 2.

@@ -1,17 +1,11 @@
 //! What is answered to another thread while a job is run.
-ghost use Rattle.std.specs.Prelude.{◌≡◌};
-ghost use Rattle.queue_code.specs.Calls.{task_count};
-ghost use Rattle.queue_code.specs.Codes.{calls_of};
-ghost use Rattle.task_word.specs.Views.{new_core};
-
-use super::{
-    Played, RunNumber, Said, Script, are_told, check_lines, code_of, in_time, is_done, saw,
-    say_all, tasks_of,
-};
-use queue_code::Code;
+use super::plays::{Came, Play, play_in_time};
+use super::scripts::{Said, Script, say_all};
+use super::{RunNumber, count_done, saw, tasks_of};
+use crate::told::{are_told, check_lines, code_of};
+use heap_allocator::HeapAllocator;
 use sched_time::Ending;
 use std::alloc::{AllocError, AllocGlobal, Global};
-use std::marker::Brand;
 use std::process::Abort;
 use std::sync::Wait;
 use std::sync::atomic::{AtomicU64, Ordering};
@@ -19,8 +13,7 @@ use std::test::Fail;
 use std::thread;
 use std::thread::Threads;
 use std::time::Clock;
-use task_word::CoreSeat;
-use worker_pool::{Job, Named, Pool, Shared};
+use worker_pool::{Handle, Job, Named, Pool, PoolError};
 
 /// A job that says that it began, and waits until it may end.
 #[derive(Drop)]
@@ -57,10 +50,10 @@ impl Job for Held {
 }
 
 /// Does the calls of a script once a job runs, and lets it end then.
-fn call_beside<N: Named + Send + Sync, R: Threads + Wait + Sync>(
+fn call_beside<N: Named + Send + Sync, A: HeapAllocator + Send + Sync, R: Threads + Wait + Sync>(
     rt: &R,
     alloc: Global,
-    pool: &Pool<'_, N, Global>,
+    pool: &Pool<'_, N, A>,
     held: &Held,
     script: &Script<'_>,
 ) -> Result<Vec<Said>, Fail> {
@@ -75,69 +68,67 @@ fn call_beside<N: Named + Send + Sync, R: Threads + Wait + Sync>(
     said
 }
 
-/// A run at moment 0, and calls beside it while its first job is run. What the run was answered is said last.
-fn beside_of<N: Named + Send + Sync, R: Threads + Wait + Sync>(
+/// A run at moment 0, and the calls of a script beside it while its first job is run.
+#[derive(Drop)]
+pub struct Beside<'a> {
+    held: &'a Held,
+    script: Script<'a>,
+    ran: Result<(), PoolError>,
+    said: Option<Vec<Said>>,
+}
+
+/// Does it with a pool.
+pub fn play_in<
+    's,
+    N: Named + Send + Sync,
+    A: HeapAllocator + Send + Sync,
+    R: Threads + Wait + Sync,
+>(
     rt: &R,
     alloc: Global,
-    shared: &Shared<Global>,
-    seat: CoreSeat<Global>,
-    code: Code<Global>,
-    workers: u8,
-    held: &Held,
-    script: &Script<'_>,
-) -> Result<Played, Fail>
-    requires shared { (shared.now.table ≡ N.table) × (shared.now.cells ≡ N.cells) }
-    requires seat { (seat.table ≡ shared.now.table) × (seat.view ≡ new_core shared.now.tasks) }
-    requires tasks { shared.now.tasks ≡ task_count (calls_of code) }
-    requires named { (calls_of code ≡ N.calls) × (workers ≡ N.workers) }
-{
-    let pool = Pool::<N, Global>::new(alloc, shared, seat, code, workers, 1_000)?;
+    pool: &Pool<'s, N, A>,
+    beside: &mut Beside<'_>,
+) -> Result<Vec<Handle<'s, N, A>>, Fail> {
+    let (held, script) = (beside.held, beside.script);
     let (ran, said) = thread::join(
         rt,
         || pool.run(rt, held, &[0]),
-        || call_beside(rt, alloc, &pool, held, script),
+        || call_beside(rt, alloc, pool, held, &script),
     );
-    let book = pool.end();
-    let mut said = said?;
-    said.push(Said::Ran(ran))?;
-    Ok(Played {
-        said,
-        results: Vec::new(alloc),
-        agreed: Vec::new(alloc),
-        lines: book.lines().to_vec(alloc)?,
-        forestalled: book.is_forestalled(),
-    })
+    beside.ran = ran;
+    beside.said = Some(said?);
+    Ok(Vec::new(alloc))
 }
 
-/// The same with a new pool for a code.
-fn play_beside<R: Threads + Wait + Sync>(
-    rt: &R,
-    alloc: Global,
-    code: Code<Global>,
-    workers: u8,
-    held: &Held,
-    script: &str,
-) -> Result<Played, Fail> {
-    let (shared, seat) = Shared::new(alloc, code.tasks())?;
-    let script = Script { text: script };
-    beside_of::<Brand, _>(rt, alloc, &shared, seat, code, workers, held, &script)
-}
-
-/// The same with a new pool for a plan's text, which runs well, in time.
+/// Checks what calls beside a run of a plan are answered, which runs well, and gives what is known then.
 fn runs_beside<R: AllocGlobal + Threads + Wait + Sync + Clock + Abort>(
     rt: &R,
+    name: &str,
     plan: &str,
     workers: u8,
     opener: Option<u32>,
     script: &str,
-) -> Result<Played, Fail> {
+) -> Result<Came, Fail> {
     let alloc = rt.alloc();
     let code = code_of(alloc, plan)?;
-    let held = Held::new(opener);
-    let mut beside = in_time(rt, || play_beside(rt, alloc, code, workers, &held, script))?;
-    let ran = beside.said.pop();
-    assert!(rt; matches!(ran, Some(Said::Ran(Ok(())))), "{ran:?}");
-    Ok(beside)
+    let mut beside = Beside {
+        held: &Held::new(opener),
+        script: Script { text: script },
+        ran: Ok(()),
+        said: None,
+    };
+    let came = play_in_time(
+        rt,
+        alloc,
+        alloc,
+        code,
+        workers,
+        1_000,
+        Play::Beside::<RunNumber>(&mut beside),
+    )?;
+    assert!(rt; beside.ran == Ok(()), "{name}");
+    are_told(rt, name, &beside.said.ok_or("nothing was said")?, script)?;
+    Ok(came)
 }
 
 /// Calls beside a run, and what they are answered.
@@ -153,9 +144,8 @@ const LINES_BESIDE: &str = "0 submit 0 schedule due 0\n0 submit 1 schedule due 0
 #[test]
 fn a_second_run_is_told_so(rt: HostRuntime) -> Result<(), Fail> {
     let plan = tasks_of(rt.alloc(), 2, 0)?;
-    let beside = runs_beside(&rt, plan.as_str(), 1, None, BESIDE_A_RUN)?;
-    are_told(&rt, "beside a run", &beside.said, BESIDE_A_RUN)?;
-    check_lines(&rt, "beside a run", &beside.lines, LINES_BESIDE)
+    let came = runs_beside(&rt, "beside a run", plan.as_str(), 1, None, BESIDE_A_RUN)?;
+    check_lines(&rt, "beside a run", &came.lines, LINES_BESIDE)
 }
 
 /// The plan of a task that is due at moment 0, and one that is due at this moment.
@@ -166,21 +156,33 @@ fn two_tasks(alloc: Global, moment: u64) -> Result<String, AllocError> {
     )
 }
 
-/// The greatest moment.
-const LAST: u64 = 4_611_686_018_427_387_904;
+/// Moments, up to the greatest one.
+const MOMENTS: &[u64] = &[
+    1,
+    65_536,
+    4_294_967_295,
+    4_294_967_296,
+    4_611_686_018_427_387_904,
+];
 
 /// The job of the task that is due at this moment, which another thread lets the clock show, lets both end.
 #[test]
 fn a_clock_from_elsewhere_wakes_a_worker(rt: HostRuntime) -> Result<(), Fail> {
     let alloc = rt.alloc();
-    for moment in [1u64, 65_536, 4_294_967_295, 4_294_967_296, LAST] {
-        let plan = two_tasks(alloc, moment)?;
+    for moment in MOMENTS {
+        let plan = two_tasks(alloc, *moment)?;
         let script = format!(in alloc;
             "advance {moment} | Advanced(Ok(Applied {{ first: 4, count: 1, work: None }}))"
         )?;
-        let beside = runs_beside(&rt, plan.as_str(), 2, Some(1), script.as_str())?;
-        are_told(&rt, "from elsewhere", &beside.said, script.as_str())?;
-        assert!(rt; beside.lines.iter().filter(|line| is_done(line)).count() == 2);
+        let came = runs_beside(
+            &rt,
+            "from elsewhere",
+            plan.as_str(),
+            2,
+            Some(1),
+            script.as_str(),
+        )?;
+        assert!(rt; count_done(&came.lines) == 2, "{moment}");
     }
     Ok(())
 }

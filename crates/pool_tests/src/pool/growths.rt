@@ -1,24 +1,20 @@
 //! Want of memory in a run: each growth is refused in turn, on whichever thread it is asked for.
-ghost use Rattle.std.specs.Prelude.{◌≡◌};
-ghost use Rattle.queue_code.specs.Calls.{task_count};
-ghost use Rattle.queue_code.specs.Codes.{calls_of};
-ghost use Rattle.task_word.specs.Views.{new_core};
-
-use super::{Counting, conforms, in_time};
+use super::plays::{Came, Play, play_in_time};
+use super::{Counting, RunNumber};
+use crate::told::conforms;
 use executor_model::{Answer, Line, Message};
+use heap_allocator::HeapAllocator;
 use plan_compile::compile;
 use plan_read::{Plan, read_plan};
-use queue_code::Code;
 use refusing_allocator::Refusing;
 use std::alloc::{AllocGlobal, Global};
-use std::marker::Brand;
 use std::process::Abort;
 use std::sync::Wait;
 use std::sync::atomic::Ordering;
 use std::test::Fail;
 use std::thread::Threads;
-use task_word::CoreSeat;
-use worker_pool::{Applied, Named, Pool, PoolError, Shared};
+use std::time::Clock;
+use worker_pool::{Applied, Handle, Named, Pool, PoolError};
 
 /// Tasks with so many runs that the lists of a book grow while they are run.
 const PLAN: &str = "version = 1\n[[block]]\ntimes = 16\nevery = 0\n\
@@ -44,19 +40,10 @@ struct Later {
     ran: [Result<(), PoolError>; 2],
 }
 
-/// What came of a run whose growth of some number was refused. There are later calls where it asked for that growth.
-#[derive(Drop)]
-struct Came {
-    ran: Result<(), PoolError>,
-    later: Option<Later>,
-    is_ripe: bool,
-    lines: Vec<Line>,
-}
-
 /// Runs a pool twice more, where the clock shows a moment at which tasks are due.
-fn run_again<N: Named + Send + Sync, R: Threads + Wait + Sync>(
+fn run_again<N: Named + Send + Sync, A: HeapAllocator + Send + Sync, R: Threads + Wait + Sync>(
     rt: &R,
-    pool: &Pool<'_, N, &Refusing<Global>>,
+    pool: &Pool<'_, N, A>,
     job: &Counting,
 ) -> Result<Later, PoolError> {
     let begun = job.runs.load(Ordering::SeqCst);
@@ -70,91 +57,104 @@ fn run_again<N: Named + Send + Sync, R: Threads + Wait + Sync>(
     })
 }
 
-/// A run whose growth of this number is refused, in a pool of these names.
-fn refuse_in<'h, N: Named + Send + Sync, R: Threads + Wait + Sync + AllocGlobal>(
-    rt: &R,
+/// A run whose growth of this number is refused. There are later calls where it asks for that growth.
+#[derive(Drop)]
+pub struct Refused<'h> {
     heap: &'h Refusing<Global>,
-    shared: &Shared<&'h Refusing<Global>>,
-    seat: CoreSeat<&'h Refusing<Global>>,
-    code: Code<&'h Refusing<Global>>,
     number: u64,
-) -> Result<Came, Fail>
-    requires shared { (shared.now.table ≡ N.table) × (shared.now.cells ≡ N.cells) }
-    requires seat { (seat.table ≡ shared.now.table) × (seat.view ≡ new_core shared.now.tasks) }
-    requires tasks { shared.now.tasks ≡ task_count (calls_of code) }
-    requires named { (calls_of code ≡ N.calls) × (2 ≡ N.workers) }
-{
-    let pool = Pool::<N, _>::new(heap, shared, seat, code, 2, 10_000)?;
+    ran: Result<(), PoolError>,
+    later: Option<Later>,
+}
+
+/// Does it with a pool.
+pub fn play_in<
+    's,
+    N: Named + Send + Sync,
+    A: HeapAllocator + Send + Sync,
+    R: Threads + Wait + Sync,
+>(
+    rt: &R,
+    alloc: Global,
+    pool: &Pool<'s, N, A>,
+    refused: &mut Refused<'_>,
+) -> Result<Vec<Handle<'s, N, A>>, Fail> {
     let job = Counting::new();
-    heap.refuse(number);
-    let ran = pool.run(rt, &job, &[0, 9]);
-    let mut later = None;
-    if heap.has_refused() {
-        later = Some(run_again(rt, &pool, &job)?);
+    refused.heap.refuse(refused.number);
+    refused.ran = pool.run(rt, &job, &[0, 9]);
+    if refused.heap.has_refused() {
+        refused.later = Some(run_again(rt, pool, &job)?);
     }
-    let book = pool.end();
-    Ok(Came {
-        ran,
-        later,
-        is_ripe: book.ripe(),
-        lines: book.lines().to_vec(rt.alloc())?,
-    })
+    Ok(Vec::new(alloc))
 }
 
 /// Checks that a run that was refused a growth has ended so, that no later one has added a line or begun a job, though tasks are
-/// due, and that there is a start for each job.
+/// due, and that there is a start for each job. Gives how many jobs were begun before the growth was refused.
 fn check_refused(
     rt: &(impl Abort + AllocGlobal),
     plan: &Plan<Global>,
     came: &Came,
+    ran: Result<(), PoolError>,
     later: &Later,
-) -> Result<(), Fail> {
+) -> Result<u64, Fail> {
     let memory = Err(PoolError::Memory);
-    assert!(rt; came.ran == memory);
+    assert!(rt; ran == memory);
     assert!(rt; later.ran == [memory, memory]);
     let [before, behind] = later.clocks;
     assert!(rt; behind.first == before.first.saturating_add(before.count));
     assert!(rt; came.is_ripe);
     let starts = count_starts(&came.lines);
     assert!(rt; later.begun == [starts, starts]);
-    conforms(rt, plan, 2, &came.lines)
+    conforms(rt, plan, 2, &came.lines)?;
+    Ok(starts)
 }
 
-/// The same with a new pool.
-fn play_refused<R: Threads + Wait + Sync + AllocGlobal>(
+/// Runs a new pool whose growth of this number is refused, and checks what comes of it. All memory is given back. Gives how many jobs
+/// were begun before, and nothing where the growth was not asked for.
+fn begun_before<R: Threads + Wait + Sync + Clock + Abort + AllocGlobal>(
     rt: &R,
-    heap: &Refusing<Global>,
     plan: &Plan<Global>,
     number: u64,
-) -> Result<Came, Fail> {
-    let code = compile(heap, plan)?;
-    let (shared, seat) = Shared::new(heap, code.tasks())?;
-    refuse_in::<Brand, _>(rt, heap, &shared, seat, code, number)
+) -> Result<Option<u64>, Fail> {
+    let heap = Refusing::new(rt.alloc());
+    let mut refused = Refused {
+        heap: &heap,
+        number,
+        ran: Ok(()),
+        later: None,
+    };
+    let code = compile(&heap, plan)?;
+    let came = play_in_time(
+        rt,
+        rt.alloc(),
+        &heap,
+        code,
+        2,
+        10_000,
+        Play::Refused::<RunNumber>(&mut refused),
+    )?;
+    assert!(rt; heap.used() == 0);
+    match refused.later {
+        Some(later) => Ok(Some(check_refused(rt, plan, &came, refused.ran, &later)?)),
+        None => {
+            assert!(rt; refused.ran == Ok(()));
+            Ok(None)
+        }
+    }
 }
 
-/// Refuses each growth of a run in turn. All memory is given back each time. Over all runs some growth is refused before a job
-/// is begun, and some after that.
-fn refuse_each<R: Threads + Wait + Sync + Abort + AllocGlobal>(rt: &R) -> Result<(), Fail> {
+/// Each growth is refused in turn. Over all runs some growth is refused before a job is begun, and some after that.
+#[test]
+fn want_of_memory_ends_this_run_and_each_later_one(rt: HostRuntime) -> Result<(), Fail> {
     let plan = read_plan(rt.alloc(), PLAN.as_bytes())?;
     let mut before = false;
     let mut meanwhile = false;
     for number in 1..1_000u64 {
-        let heap = Refusing::new(rt.alloc());
-        let came = play_refused(rt, &heap, &plan, number)?;
-        assert!(rt; heap.used() == 0);
-        let Some(later) = &came.later else {
-            assert!(rt; came.ran == Ok(()));
+        let Some(begun) = begun_before(&rt, &plan, number)? else {
             assert!(rt; before && meanwhile);
             return Ok(());
         };
-        check_refused(rt, &plan, &came, later)?;
-        before |= later.begun[0] == 0;
-        meanwhile |= later.begun[0] > 0;
+        before |= begun == 0;
+        meanwhile |= begun > 0;
     }
     Err("a growth was refused each time".into())
-}
-
-#[test]
-fn want_of_memory_ends_this_run_and_each_later_one(rt: HostRuntime) -> Result<(), Fail> {
-    in_time(&rt, || refuse_each(&rt))
 }

@@ -1,5 +1,7 @@
 //! Runs that are long: of many clocks, and of a task that is run many times.
-use super::{AMPLE, Counting, RunNumber, are_told, play};
+use super::scripts::play;
+use super::{Counting, RunNumber};
+use crate::told::{AMPLE, are_told};
 use executor_model::{Answer, Message};
 use std::alloc::Global;
 use std::sync::atomic::Ordering;
@@ -26,10 +28,10 @@ fn script_of_clocks(alloc: Global) -> Result<String, Fail> {
 #[test]
 fn each_of_many_clocks_is_applied(rt: HostRuntime) -> Result<(), Fail> {
     let script = script_of_clocks(rt.alloc())?;
-    let played = play(&rt, "version = 1\n", 1, AMPLE, &RunNumber, script.as_str())?;
-    are_told(&rt, "many clocks", &played.said, script.as_str())?;
-    assert!(rt; played.lines.len() == 65_538);
-    for (place, line) in played.lines.iter().enumerate() {
+    let (said, came) = play(&rt, "version = 1\n", 1, AMPLE, &RunNumber, script.as_str())?;
+    are_told(&rt, "many clocks", &said, script.as_str())?;
+    assert!(rt; came.lines.len() == 65_538);
+    for (place, line) in came.lines.iter().enumerate() {
         assert!(rt; line.moment() == place as u64);
         assert!(rt; line.message() == Message::Answer(Answer::Clock));
     }
@@ -45,8 +47,8 @@ const EACH_NANOSECOND: &str =
 fn a_job_is_told_the_number_of_each_of_many_runs(rt: HostRuntime) -> Result<(), Fail> {
     let job = Counting::new();
     let script = "run 299 | Ran(Ok(()))";
-    let played = play(&rt, EACH_NANOSECOND, 1, AMPLE, &job, script)?;
-    are_told(&rt, "many runs", &played.said, script)?;
+    let (said, _) = play(&rt, EACH_NANOSECOND, 1, AMPLE, &job, script)?;
+    are_told(&rt, "many runs", &said, script)?;
     assert!(rt; job.astray.load(Ordering::SeqCst) == 0);
     assert!(rt; job.runs.load(Ordering::SeqCst) == 300);
     Ok(())

@@ -1,5 +1,8 @@
 //! What a run comes to, which errors come, and what later runs are answered.
-use super::{AMPLE, Played, RunNumber, are_told, check_lines, conforms, is_done, play, tasks_of};
+use super::plays::{Came, Known};
+use super::scripts::play;
+use super::{RunNumber, count_done, tasks_of};
+use crate::told::{AMPLE, are_told, check_lines, conforms};
 use executor_model::{Answer, Line, Message};
 use plan_read::read_plan;
 use result_cell::Verdict;
@@ -74,13 +77,25 @@ const ROWS: &[Row<'static>] = &[
 fn plays<R: AllocGlobal + Threads + Wait + Sync + Clock + Abort>(
     rt: &R,
     row: &Row<'_>,
-) -> Result<Played, Fail> {
+) -> Result<Came, Fail> {
     let plan = tasks_of(rt.alloc(), row.tasks, row.delay)?;
-    let played = play(rt, plan.as_str(), 1, row.limit, &RunNumber, row.script)?;
-    are_told(rt, row.name, &played.said, row.script)?;
-    assert!(rt; !played.forestalled, "{}", row.name);
-    check_lines(rt, row.name, &played.lines, row.trace)?;
-    Ok(played)
+    let (said, came) = play(rt, plan.as_str(), 1, row.limit, &RunNumber, row.script)?;
+    are_told(rt, row.name, &said, row.script)?;
+    assert!(rt; !came.is_forestalled, "{}", row.name);
+    check_lines(rt, row.name, &came.lines, row.trace)?;
+    Ok(came)
+}
+
+/// Whether a handle, and handle and book, know of each of so many tasks that it is done with this value.
+fn all_read(known: &[Known], tasks: u32, value: u64) -> bool {
+    let ending = Ending::Value(value);
+    for (task, read) in (0..tasks).zip(known) {
+        let verdict = Some(Verdict { task, ending });
+        if read.result != verdict || read.agreed != verdict {
+            return false;
+        }
+    }
+    known.len() == tasks as usize
 }
 
 #[test]
@@ -88,13 +103,8 @@ fn each_row_is_played(rt: HostRuntime) -> Result<(), Fail> {
     for row in ROWS {
         plays(&rt, row)?;
     }
-    let played = plays(&rt, &A_TASK_IS_RUN_ONCE_IT_IS_DUE)?;
-    let verdict = Verdict {
-        task: 0,
-        ending: Ending::Value(0),
-    };
-    assert!(rt; played.results.as_slice() == [Some(verdict)].as_slice());
-    assert!(rt; played.agreed.as_slice() == [Some(verdict)].as_slice());
+    let came = plays(&rt, &A_TASK_IS_RUN_ONCE_IT_IS_DUE)?;
+    assert!(rt; all_read(&came.known, 1, 0));
     Ok(())
 }
 
@@ -121,20 +131,12 @@ impl Job for Gate {
     }
 }
 
-/// Whether a line is that of a run that ended.
-fn is_finish(line: &Line) -> bool {
-    matches!(line.message(), Message::Answer(Answer::Finish { .. }))
-}
-
-/// Whether a handle reads of each of so many tasks that it is done with the value 1.
-fn all_read(results: &[Option<Verdict>], tasks: u32) -> bool {
-    let ending = Ending::Value(1);
-    for (task, read) in (0..tasks).zip(results) {
-        if *read != Some(Verdict { task, ending }) {
-            return false;
-        }
-    }
-    results.len() == tasks as usize
+/// How many lines are those of a run that ended.
+fn count_finishes(lines: &[Line]) -> usize {
+    lines
+        .iter()
+        .filter(|line| matches!(line.message(), Message::Answer(Answer::Finish { .. })))
+        .count()
 }
 
 /// Checks that each of so many tasks is done with the value 1, as its line says and as a handle reads it.
@@ -144,16 +146,20 @@ fn all_done(
     plan: &str,
     workers: u8,
     tasks: u32,
-    played: &Played,
+    came: &Came,
 ) -> Result<(), Fail> {
-    assert!(rt; all_read(&played.results, tasks), "{name}");
-    assert!(rt; !played.forestalled, "{name}");
-    let finishes = played.lines.iter().filter(|line| is_finish(line)).count();
-    let done = played.lines.iter().filter(|line| is_done(line)).count();
-    assert!(rt; finishes == tasks as usize, "{name}: {finishes}");
-    assert!(rt; done == tasks as usize, "{name}: {done}");
+    assert!(rt;
+        all_read(&came.known, tasks, 1) && !came.is_forestalled,
+        "{name}"
+    );
+    let finishes = count_finishes(&came.lines);
+    let done = count_done(&came.lines);
+    assert!(rt;
+        finishes == tasks as usize && done == finishes,
+        "{name}: {done}"
+    );
     let plan = read_plan(rt.alloc(), plan.as_bytes())?;
-    conforms(rt, &plan, workers, &played.lines)
+    conforms(rt, &plan, workers, &came.lines)
 }
 
 /// Runs so many tasks of a plan by so many workers, each of whose jobs waits for the others, and checks that all are done.
@@ -168,33 +174,33 @@ fn runs_gated<R: AllocGlobal + Threads + Wait + Sync + Clock + Abort>(
         wanted: workers as u64,
         inside: AtomicU64::new(0),
     };
-    let played = play(rt, plan, workers, AMPLE, &gate, script)?;
-    are_told(rt, script, &played.said, script)?;
-    all_done(rt, script, plan, workers, tasks, &played)
+    let (said, came) = play(rt, plan, workers, AMPLE, &gate, script)?;
+    are_told(rt, script, &said, script)?;
+    all_done(rt, script, plan, workers, tasks, &came)
 }
 
-/// As many jobs as workers at moment 0.
-fn once<R: AllocGlobal + Threads + Wait + Sync + Clock + Abort>(
+/// As many jobs as workers at moment 0; and where they are to run twice, as many once more at moment 5, when all sleep.
+fn runs_all<R: AllocGlobal + Threads + Wait + Sync + Clock + Abort>(
     rt: &R,
     workers: u8,
-) -> Result<(), Fail> {
-    let plan = tasks_of(rt.alloc(), workers, 0)?;
-    let tasks = u32::from(workers);
-    runs_gated(rt, plan.as_str(), workers, tasks, "run 0 | Ran(Ok(()))")
-}
-
-/// As many once more at moment 5, when all sleep.
-fn twice<R: AllocGlobal + Threads + Wait + Sync + Clock + Abort>(
-    rt: &R,
-    workers: u8,
+    twice: bool,
 ) -> Result<(), Fail> {
     let mut plan = tasks_of(rt.alloc(), workers, 0)?;
+    let tasks = u32::from(workers);
+    if !twice {
+        return runs_gated(rt, plan.as_str(), workers, tasks, "run 0 | Ran(Ok(()))");
+    }
     write!(
         plan,
         "[[block]]\ntimes = {workers}\nevery = 0\ncall = [{{ op = \"schedule\", name = \"b\", delay = 5 }}]\n"
     )?;
-    let tasks = 2 * u32::from(workers);
-    runs_gated(rt, plan.as_str(), workers, tasks, "run 0 5 | Ran(Ok(()))")
+    runs_gated(
+        rt,
+        plan.as_str(),
+        workers,
+        2 * tasks,
+        "run 0 5 | Ran(Ok(()))",
+    )
 }
 
 /// Each job waits until as many run as there are workers: at moment 0, and then once more at moment 5. There all workers are asleep,
@@ -202,8 +208,8 @@ fn twice<R: AllocGlobal + Threads + Wait + Sync + Clock + Abort>(
 #[test]
 fn as_many_jobs_run_as_there_are_workers(rt: HostRuntime) -> Result<(), Fail> {
     for workers in [2u8, 8, 64] {
-        once(&rt, workers)?;
-        twice(&rt, workers)?;
+        runs_all(&rt, workers, false)?;
+        runs_all(&rt, workers, true)?;
     }
     Ok(())
 }

@@ -1,17 +1,13 @@
 //! Workers run tasks while handles on threads of their own cancel them, and a further thread moves the clock.
-ghost use Rattle.std.specs.Prelude.{◌≡◌};
-ghost use Rattle.queue_code.specs.Calls.{task_count};
-ghost use Rattle.queue_code.specs.Codes.{calls_of};
-ghost use Rattle.task_word.specs.Views.{new_core};
-
-use super::{MOST_LOADS, RunNumber, conforms, give_back, in_time, saw};
+use super::plays::{Came, Known, Play, play_once};
+use super::{MOST_LOADS, RunNumber, in_time, saw};
+use crate::told::conforms;
 use executor_model::{Answer, CancelEffect, Line, Message, Outcome};
+use heap_allocator::HeapAllocator;
 use plan_compile::compile;
 use plan_read::{Plan, read_plan};
-use queue_code::Code;
 use sched_time::Ending;
 use std::alloc::{AllocError, AllocGlobal, Global};
-use std::marker::Brand;
 use std::process::Abort;
 use std::sync::Wait;
 use std::sync::atomic::{AtomicU64, Ordering};
@@ -19,8 +15,8 @@ use std::test::Fail;
 use std::thread;
 use std::thread::Threads;
 use std::time::Clock;
-use task_word::{CancelAnswer, CoreSeat, TaskState};
-use worker_pool::{Book, Handle, Job, Named, Pool, PoolError, Shared};
+use task_word::{CancelAnswer, TaskState};
+use worker_pool::{Handle, Job, Named, Pool, PoolError};
 
 /// How often each race is run.
 const ROUNDS: u32 = 200;
@@ -106,14 +102,14 @@ impl Job for Turns {
 
 /// A handle, and which tasks it won.
 #[derive(Drop)]
-struct Canceller<'s, N: Named> {
-    handle: Handle<'s, N, Global>,
+struct Canceller<'s, N: Named, A: HeapAllocator> {
+    handle: Handle<'s, N, A>,
     won: [bool; TASKS],
     /// Whether each task that it won was cancelled each time that it looked.
     keeps: bool,
 }
 
-impl<'s, N: Named> Canceller<'s, N> {
+impl<'s, N: Named, A: HeapAllocator> Canceller<'s, N, A> {
     /// Cancels each task, from the first one on or from the last one on, and looks each time at those that it won.
     fn cancel_all(&mut self, is_ascending: bool, job: &Turns) {
         for place in 0..TASKS {
@@ -141,12 +137,12 @@ impl<'s, N: Named> Canceller<'s, N> {
 }
 
 /// So many handles of a pool.
-fn cancellers_of<'s, N: Named, R: Wait>(
+fn cancellers_of<'s, N: Named, A: HeapAllocator, R: Wait>(
     rt: &R,
     alloc: Global,
-    pool: &Pool<'s, N, Global>,
+    pool: &Pool<'s, N, A>,
     count: usize,
-) -> Result<Vec<Canceller<'s, N>>, Fail> {
+) -> Result<Vec<Canceller<'s, N, A>>, Fail> {
     let mut cancellers = Vec::new(alloc);
     for _place in 0..count {
         cancellers.push(Canceller {
@@ -159,11 +155,11 @@ fn cancellers_of<'s, N: Named, R: Wait>(
 }
 
 /// Cancels with all handles, each on a thread of its own, once a first job has begun.
-fn cancel_with_all<N: Named + Send + Sync, R: Threads + Wait + Sync>(
-    rt: &R,
-    job: &Turns,
-    cancellers: &mut [Canceller<'_, N>],
-) {
+fn cancel_with_all<
+    N: Named + Send + Sync,
+    A: HeapAllocator + Send + Sync,
+    R: Threads + Wait + Sync,
+>(rt: &R, job: &Turns, cancellers: &mut [Canceller<'_, N, A>]) {
     job.await_begin();
     let threads = cancellers.len();
     if threads == 0 {
@@ -178,12 +174,12 @@ fn cancel_with_all<N: Named + Send + Sync, R: Threads + Wait + Sync>(
 }
 
 /// Runs the pool, with all handles and the clock beside it.
-fn run_beside<N: Named + Send + Sync, R: Threads + Wait + Sync>(
+fn run_beside<N: Named + Send + Sync, A: HeapAllocator + Send + Sync, R: Threads + Wait + Sync>(
     rt: &R,
-    pool: &Pool<'_, N, Global>,
+    pool: &Pool<'_, N, A>,
     race: &Race<'_>,
     job: &Turns,
-    cancellers: &mut [Canceller<'_, N>],
+    cancellers: &mut [Canceller<'_, N, A>],
 ) -> Result<(), PoolError> {
     let (ran, ()) = thread::join(
         rt,
@@ -198,13 +194,11 @@ fn run_beside<N: Named + Send + Sync, R: Threads + Wait + Sync>(
 }
 
 /// Cancels with all handles, and lets the clock show a moment meanwhile: once a handle has won, where that is waited for.
-fn cancel_and_move<N: Named + Send + Sync, R: Threads + Wait + Sync>(
-    rt: &R,
-    pool: &Pool<'_, N, Global>,
-    moment: u64,
-    job: &Turns,
-    cancellers: &mut [Canceller<'_, N>],
-) {
+fn cancel_and_move<
+    N: Named + Send + Sync,
+    A: HeapAllocator + Send + Sync,
+    R: Threads + Wait + Sync,
+>(rt: &R, pool: &Pool<'_, N, A>, moment: u64, job: &Turns, cancellers: &mut [Canceller<'_, N, A>]) {
     let (_applied, ()) = thread::join(
         rt,
         || {
@@ -213,40 +207,6 @@ fn cancel_and_move<N: Named + Send + Sync, R: Threads + Wait + Sync>(
         },
         || cancel_with_all(rt, job, cancellers),
     );
-}
-
-/// What a race came to.
-#[derive(Drop)]
-struct Raced {
-    ran: Result<(), PoolError>,
-    /// What a later run was answered.
-    again: Result<(), PoolError>,
-    /// How often a handle won.
-    won: usize,
-    keeps: bool,
-    /// Whether somebody waited in vain.
-    gave_up: bool,
-    lines: Vec<Line>,
-}
-
-/// Gives the handles back to the book, and counts what they won.
-fn count_wins<'s, N: Named>(
-    book: &mut Book<N, Global>,
-    shared: &'s Shared<Global>,
-    cancellers: Vec<Canceller<'s, N>>,
-    raced: &mut Raced,
-) -> Result<(), Fail>
-    requires { (shared.now.table ≡ N.table) × (shared.now.cells ≡ N.cells) }
-{
-    for mut canceller in cancellers {
-        canceller.look();
-        let won = canceller.won.iter().filter(|won| **won).count();
-        raced.won = raced.won.saturating_add(won);
-        raced.keeps = raced.keeps && canceller.keeps;
-        give_back(book, shared, canceller.handle)?;
-    }
-    raced.lines.extend_from_slice(book.lines())?;
-    Ok(())
 }
 
 /// How a race is run in one of its rounds.
@@ -258,57 +218,63 @@ struct Round {
     waits: bool,
 }
 
-/// Runs a race in a pool of these names.
-fn race_of<N: Named + Send + Sync, R: Threads + Wait + Sync>(
-    rt: &R,
-    alloc: Global,
-    shared: &Shared<Global>,
-    seat: CoreSeat<Global>,
-    code: Code<Global>,
-    workers: u8,
-    race: &Race<'_>,
+/// A race in one of its rounds, and what it came to.
+#[derive(Drop)]
+pub struct Raced<'a> {
+    race: &'a Race<'a>,
     round: Round,
-) -> Result<Raced, Fail>
-    requires shared { (shared.now.table ≡ N.table) × (shared.now.cells ≡ N.cells) }
-    requires seat { (seat.table ≡ shared.now.table) × (seat.view ≡ new_core shared.now.tasks) }
-    requires tasks { shared.now.tasks ≡ task_count (calls_of code) }
-    requires named { (calls_of code ≡ N.calls) × (workers ≡ N.workers) }
-{
-    let pool = Pool::<N, Global>::new(alloc, shared, seat, code, workers, race.limit)?;
-    let mut raced = Raced {
-        ran: Ok(()),
-        again: Ok(()),
-        won: 0,
-        keeps: true,
-        gave_up: false,
-        lines: Vec::new(alloc),
-    };
-    let cancellers = run_race(rt, alloc, &pool, race, round, &mut raced)?;
-    let mut book = pool.end();
-    count_wins(&mut book, shared, cancellers, &mut raced)?;
-    Ok(raced)
+    ran: Result<(), PoolError>,
+    /// What a later run was answered.
+    again: Result<(), PoolError>,
+    /// Which of the tasks each handle won, in the order in which the handles are given back.
+    won: Vec<bool>,
+    /// Whether each task that a handle won was cancelled each time that it looked.
+    keeps: bool,
+    /// Whether somebody waited in vain.
+    gave_up: bool,
+}
+
+impl<'a> Raced<'a> {
+    /// Notes what handles won, and gives the handles.
+    fn note<'s, N: Named, A: HeapAllocator>(
+        &mut self,
+        alloc: Global,
+        cancellers: Vec<Canceller<'s, N, A>>,
+    ) -> Result<Vec<Handle<'s, N, A>>, Fail> {
+        let mut handles = Vec::new(alloc);
+        for canceller in cancellers {
+            self.keeps = self.keeps && canceller.keeps;
+            self.won.extend_from_slice(&canceller.won)?;
+            handles.push(canceller.handle)?;
+        }
+        Ok(handles)
+    }
 }
 
 /// Runs a pool with handles beside it, and once more when all is done.
-fn run_race<'s, N: Named + Send + Sync, R: Threads + Wait + Sync>(
+/// Does it with a pool.
+pub fn play_in<
+    's,
+    N: Named + Send + Sync,
+    A: HeapAllocator + Send + Sync,
+    R: Threads + Wait + Sync,
+>(
     rt: &R,
     alloc: Global,
-    pool: &Pool<'s, N, Global>,
-    race: &Race<'_>,
-    round: Round,
-    raced: &mut Raced,
-) -> Result<Vec<Canceller<'s, N>>, Fail> {
+    pool: &Pool<'s, N, A>,
+    raced: &mut Raced<'_>,
+) -> Result<Vec<Handle<'s, N, A>>, Fail> {
     // So that the handles meet tasks that are submitted.
     pool.advance(rt, 0)?;
-    let mut cancellers = cancellers_of(rt, alloc, pool, race.handles)?;
-    let job = Turns::new(race.turns, round.waits);
-    raced.ran = run_beside(rt, pool, race, &job, &mut cancellers);
+    let mut cancellers = cancellers_of(rt, alloc, pool, raced.race.handles)?;
+    let job = Turns::new(raced.race.turns, raced.round.waits);
+    raced.ran = run_beside(rt, pool, raced.race, &job, &mut cancellers);
     raced.gave_up = job.gave_up.load(Ordering::SeqCst) > 0;
-    raced.again = pool.run(rt, &RunNumber, race.moments);
-    if round.is_reversed {
+    raced.again = pool.run(rt, &RunNumber, raced.race.moments);
+    if raced.round.is_reversed {
         cancellers.reverse();
     }
-    Ok(cancellers)
+    raced.note(alloc, cancellers)
 }
 
 /// How often each of the tasks was done, and how often it was cancelled from outside.
@@ -361,9 +327,20 @@ fn ends_in(lines: &[Line]) -> Ends {
     ends
 }
 
-/// Checks how the tasks end in the lines of a race. Whether a run ended well in it.
-fn check_ends(rt: &impl Abort, race: &Race<'_>, raced: &Raced) -> bool {
-    let ends = ends_in(&raced.lines);
+/// How many tasks the handles won, and whether each of them is cancelled once the pool has ended.
+fn count_won(won: &[bool], known: &[Known]) -> (u64, bool) {
+    let mut count = 0u64;
+    let mut keeps = won.len() == known.len();
+    for (won, known) in won.iter().zip(known) {
+        keeps = keeps && (!*won || known.state == TaskState::Cancelled);
+        count = count.saturating_add(u64::from(*won));
+    }
+    (count, keeps)
+}
+
+/// Checks how the tasks end in the lines of a race in which the handles won so many. Whether a run ended well in it.
+fn check_ends(rt: &impl Abort, race: &Race<'_>, won: u64, lines: &[Line]) -> bool {
+    let ends = ends_in(lines);
     let mut cancelled = 0u64;
     for (done, outside) in ends.done.iter().zip(&ends.cancelled) {
         let both = done.saturating_add(*outside);
@@ -373,27 +350,32 @@ fn check_ends(rt: &impl Abort, race: &Race<'_>, raced: &Raced) -> bool {
         );
         cancelled = cancelled.saturating_add(*outside as u64);
     }
-    assert!(rt; raced.won as u64 == cancelled);
+    assert!(rt; won == cancelled);
     ends.any_well
 }
 
-/// Checks the counts of a race, and its lines by the plan alone. Whether a run ended well in it.
+/// Checks what a race came to, and its lines by the plan alone. Whether a run ended well in it, and whether a cancel won.
 fn check_raced(
     rt: &(impl Abort + AllocGlobal),
     plan: &Plan<Global>,
-    race: &Race<'_>,
-    raced: &Raced,
-) -> Result<bool, Fail> {
+    raced: &Raced<'_>,
+    came: &Came,
+) -> Result<(bool, bool), Fail> {
+    let race = raced.race;
     assert!(rt; raced.ran == race.ran);
     assert!(rt; raced.again == race.ran);
-    assert!(rt; raced.keeps, "a task that was won is not cancelled");
+    let (won, keeps) = count_won(&raced.won, &came.known);
+    assert!(rt;
+        keeps && raced.keeps,
+        "a task that was won is not cancelled"
+    );
     assert!(rt;
         !raced.gave_up,
         "no job began, or no handle cancelled, in all the time"
     );
-    let any_well = check_ends(rt, race, raced);
-    conforms(rt, plan, race.workers, &raced.lines)?;
-    Ok(any_well)
+    let any_well = check_ends(rt, race, won, &came.lines);
+    conforms(rt, plan, race.workers, &came.lines)?;
+    Ok((any_well, won > 0))
 }
 
 /// Runs a race once. Whether a run ended well in it, and whether a cancel won.
@@ -404,11 +386,27 @@ fn run_round<R: Threads + Wait + Sync + Abort + AllocGlobal>(
     round: Round,
 ) -> Result<(bool, bool), Fail> {
     let alloc = rt.alloc();
+    let mut raced = Raced {
+        race,
+        round,
+        ran: Ok(()),
+        again: Ok(()),
+        won: Vec::new(alloc),
+        keeps: true,
+        gave_up: false,
+    };
     let code = compile(alloc, plan)?;
-    let (shared, seat) = Shared::new(alloc, code.tasks())?;
-    let raced = race_of::<Brand, _>(rt, alloc, &shared, seat, code, race.workers, race, round)?;
-    let any_well = check_raced(rt, plan, race, &raced)?;
-    Ok((any_well, raced.won > 0))
+    let (workers, limit) = (race.workers, race.limit);
+    let came = play_once(
+        rt,
+        alloc,
+        alloc,
+        code,
+        workers,
+        limit,
+        Play::Race::<RunNumber>(&mut raced),
+    )?;
+    check_raced(rt, plan, &raced, &came)
 }
 
 /// Runs a race again and again: in some rounds runs end well, and in some cancels win.

@@ -1,56 +1,55 @@
 //! How many handles a pool cuts off.
-ghost use Rattle.std.specs.Prelude.{◌≡◌};
-ghost use Rattle.queue_code.specs.Calls.{task_count};
-ghost use Rattle.queue_code.specs.Codes.{calls_of};
-ghost use Rattle.task_word.specs.Views.{new_core};
-
-use super::{code_of, tasks_of};
-use queue_code::Code;
-use std::alloc::{AllocGlobal, Global};
-use std::marker::Brand;
-use std::process::Abort;
+use super::plays::{MOST_HANDLES, Play, play_in_time};
+use super::scripts::handles_of;
+use super::{RunNumber, tasks_of};
+use crate::told::code_of;
+use heap_allocator::HeapAllocator;
+use std::alloc::Global;
 use std::sync::Wait;
 use std::test::Fail;
-use task_word::CoreSeat;
-use worker_pool::{Named, Pool, PoolError, Shared};
+use std::thread::Threads;
+use worker_pool::{Handle, Named, Pool, PoolError};
 
-/// Takes 63 handles of a pool, and asks it and its book for one more. The book has one again once one of them is back.
-fn take_all<N: Named, R: Wait + Abort + AllocGlobal>(
+/// Takes 63 handles of a pool, and asks it for one more, and for one more again.
+#[derive(Drop)]
+pub struct Seats {
+    more: [Option<PoolError>; 2],
+}
+
+/// Does it with a pool.
+pub fn play_in<
+    's,
+    N: Named + Send + Sync,
+    A: HeapAllocator + Send + Sync,
+    R: Threads + Wait + Sync,
+>(
     rt: &R,
-    shared: &Shared<Global>,
-    seat: CoreSeat<Global>,
-    code: Code<Global>,
-) -> Result<(), Fail>
-    requires shared { (shared.now.table ≡ N.table) × (shared.now.cells ≡ N.cells) }
-    requires seat { (seat.table ≡ shared.now.table) × (seat.view ≡ new_core shared.now.tasks) }
-    requires tasks { shared.now.tasks ≡ task_count (calls_of code) }
-    requires named { (calls_of code ≡ N.calls) × (1 ≡ N.workers) }
-{
-    let pool = Pool::<N, Global>::new(rt.alloc(), shared, seat, code, 1, 100)?;
-    let first = pool.handle(rt)?;
-    let mut others = Vec::new(rt.alloc());
-    for _handle in 0..62u8 {
-        others.push(pool.handle(rt)?)?;
-    }
-    assert!(rt; pool.handle(rt).err() == Some(PoolError::Seats));
-    assert!(rt; pool.handle(rt).err() == Some(PoolError::Seats));
-    let mut book = pool.end();
-    assert!(rt; book.admit(shared).err() == Some(PoolError::Seats));
-    assert!(rt; book.retire(shared, first).is_ok());
-    assert!(rt; book.admit(shared).is_ok());
-    assert!(rt; book.admit(shared).err() == Some(PoolError::Seats));
-    Ok(())
+    alloc: Global,
+    pool: &Pool<'s, N, A>,
+    seats: &mut Seats,
+) -> Result<Vec<Handle<'s, N, A>>, Fail> {
+    let handles = handles_of(rt, alloc, pool, MOST_HANDLES)?;
+    seats.more = [pool.handle(rt).err(), pool.handle(rt).err()];
+    Ok(handles)
 }
 
-/// The same with a new pool for a task.
-fn play_seats<R: Wait + Abort + AllocGlobal>(rt: &R) -> Result<(), Fail> {
-    let alloc = rt.alloc();
-    let code = code_of(alloc, tasks_of(alloc, 1, 0)?.as_str())?;
-    let (shared, seat) = Shared::new(alloc, code.tasks())?;
-    take_all::<Brand, _>(rt, &shared, seat, code)
-}
-
+/// The book has one again once one of them is back.
 #[test]
 fn a_pool_has_63_handles(rt: HostRuntime) -> Result<(), Fail> {
-    play_seats(&rt)
+    let alloc = rt.alloc();
+    let code = code_of(alloc, tasks_of(alloc, 1, 0)?.as_str())?;
+    let mut seats = Seats { more: [None, None] };
+    let came = play_in_time(
+        &rt,
+        alloc,
+        alloc,
+        code,
+        1,
+        100,
+        Play::Seats::<RunNumber>(&mut seats),
+    )?;
+    let none = Some(PoolError::Seats);
+    assert!(rt; seats.more == [none, none]);
+    assert!(rt; came.more.as_slice() == [none, None, none].as_slice());
+    Ok(())
 }

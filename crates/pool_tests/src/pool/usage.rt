@@ -4,7 +4,8 @@ ghost use Rattle.queue_code.specs.Calls.{task_count};
 ghost use Rattle.queue_code.specs.Codes.{calls_of};
 ghost use Rattle.task_word.specs.Views.{new_core};
 
-use super::{code_of, in_time, tasks_of};
+use super::{in_time, tasks_of};
+use crate::told::code_of;
 use queue_code::Code;
 use result_cell::Verdict;
 use sched_time::Ending;

@@ -1,6 +1,6 @@
 //! How lines end, and how long they are.
 
-use super::{reason_of_events, told_fault};
+use super::{Kind, reason_of_events, told_fault};
 use line_reasons::{EventFault, LineFault};
 use std::alloc::{AllocError, Global};
 use std::process::Abort;
@@ -70,7 +70,7 @@ fn line_of_length(alloc: Global, length: usize, end: &str) -> Result<String, All
 fn long_lines(rt: HostRuntime) -> Result<(), Fail> {
     for (length, end, wanted) in LENGTHS {
         let line = line_of_length(rt.alloc(), *length, end)?;
-        let told = told_fault(rt.alloc(), line.as_bytes())?;
+        let told = told_fault(rt.alloc(), Kind::Events, line.as_bytes())?;
         assert!(rt; told.as_str() == *wanted, "{length}: {told}");
     }
     Ok(())

@@ -1,12 +1,12 @@
 //! Texts of events, and where in a text its first other line is.
 
-use super::{reason_of_events, told};
+use super::reason_of_events;
 use std::alloc::{AllocError, Global};
 use std::process::Abort;
 use std::test::Fail;
 
 /// Texts of events.
-const FINE: &[(&[u8], &str)] = &[
+pub const FINE: &[(&[u8], &str)] = &[
     (b"", "fine"),
     (b"clock 5\n", "fine"),
     (b"clock 0\nstart 0\nfinish 0 ok 7\n", "fine"),
@@ -16,7 +16,7 @@ const FINE: &[(&[u8], &str)] = &[
 ];
 
 /// Texts of which the first other line is told.
-const FIRST_OTHER_LINES: &[(&[u8], &str)] = &[
+pub const FIRST_OTHER_LINES: &[(&[u8], &str)] = &[
     (
         b"clock 05\n",
         "line 1, \"clock 05\": leading zero; a moment has none, as in \"clock 5\"",
@@ -44,7 +44,7 @@ const FIRST_OTHER_LINES: &[(&[u8], &str)] = &[
 ];
 
 /// Texts of lines with other bytes.
-const OTHER_BYTES: &[(&[u8], &str)] = &[
+pub const OTHER_BYTES: &[(&[u8], &str)] = &[
     (
         b"clock 5\0\n",
         "line 1, \"clock 5\\u0000\": no number; a moment is wanted, as in \"clock 5\"",
@@ -72,7 +72,7 @@ const OTHER_BYTES: &[(&[u8], &str)] = &[
 ];
 
 /// Texts of long lines, which are cut.
-const LONG_LINES: &[(&[u8], &str)] = &[
+pub const LONG_LINES: &[(&[u8], &str)] = &[
     (
         b"clock 123456789012345678901234567890123x\n",
         "line 1, \"clock 123456789012345678901234567890123x\": no number; a moment is wanted, as in \"clock 5\"",
@@ -82,17 +82,6 @@ const LONG_LINES: &[(&[u8], &str)] = &[
         "line 1, \"clock 1234567890123456789012345678901234\"...: no number; a moment is wanted, as in \"clock 5\"",
     ),
 ];
-
-#[test]
-fn each_text_is_told(rt: HostRuntime) -> Result<(), Fail> {
-    for rows in [FINE, FIRST_OTHER_LINES, OTHER_BYTES, LONG_LINES] {
-        for (text, wanted) in rows {
-            let told = told(rt.alloc(), text)?;
-            assert!(rt; told.as_str() == *wanted, "{wanted}: {told}");
-        }
-    }
-    Ok(())
-}
 
 /// The text of a hundred clocks.
 fn hundred_clocks(alloc: Global) -> Result<String, AllocError> {

@@ -1,13 +1,10 @@
 //! Faults of any line.
 
-use super::with_newline;
-use crate::tables::{before_bar, behind_bar};
 use line_reasons::{FileName, LineFault, NumberFault, Quoted, line_fault, number_fault};
-use std::alloc::{AllocError, Global};
 use std::process::Abort;
 use std::test::Fail;
 
-const SPACES_AND_ENDS: &str = "\
+pub const SPACES_AND_ENDS: &str = "\
 5 clok | no such line
  | empty; a line has a word at least
 5\tclock | tab; one space stands between two words
@@ -18,7 +15,7 @@ const SPACES_AND_ENDS: &str = "\
   5 clock\t | tab; one space stands between two words
 ";
 
-const NUMBERS: &str = "\
+pub const NUMBERS: &str = "\
 +5 clock | sign in \"+5\"; a number has none
 5 end -3 | sign in \"-3\"; a number has none
 05 clock | leading zero in \"05\"; a number has none
@@ -30,30 +27,6 @@ const NUMBERS: &str = "\
 5x clock | no such line
 0 0x10 | no such line
 ";
-
-/// What is told of a row's line.
-fn told_of_row(alloc: Global, row: &str) -> Result<String, AllocError> {
-    let text = with_newline(alloc, before_bar(row))?;
-    line_fault(text.as_bytes()).to_string(alloc)
-}
-
-/// Tells of each line of a table. A row of the table is a line without its newline, then ` | `, and then what is to be told of
-/// it.
-fn tell(rt: &(impl AllocGlobal + Abort), table: &str) -> Result<(), Fail> {
-    for row in table.lines() {
-        let told = told_of_row(rt.alloc(), row)?;
-        assert!(rt; told.as_str() == behind_bar(row), "{row}: {told}");
-    }
-    Ok(())
-}
-
-#[test]
-fn spaces_ends_and_numbers(rt: HostRuntime) -> Result<(), Fail> {
-    for table in [SPACES_AND_ENDS, NUMBERS] {
-        tell(&rt, table)?;
-    }
-    Ok(())
-}
 
 /// Lines by how they end, or do not.
 const ENDS: &[(&[u8], LineFault<'static>)] = &[

@@ -1,11 +1,7 @@
 //! Lines of a live run: events and calls.
 
-use super::with_newline;
-use crate::tables::{before_bar, behind_bar};
 use line_reasons::EventsReason;
-use std::alloc::{AllocError, Allocator, Global};
-use std::process::Abort;
-use std::test::Fail;
+use std::alloc::Allocator;
 
 /// That of the crate, as [`reason_of_events`](super::reason_of_events) is.
 pub fn reason_of_live_lines<A: Allocator + Copy>(
@@ -15,7 +11,7 @@ pub fn reason_of_live_lines<A: Allocator + Copy>(
     line_reasons::reason_of_live_lines(alloc, text)
 }
 
-const WORDS: &str = "\
+pub const WORDS: &str = "\
 clok 5 | \"clok\" is no event or call; clock may be meant; one of clock, start, finish, cancel, call
 Call ask | \"Call\" is no event or call; call may be meant; one of clock, start, finish, cancel, call
 schedule 5 | \"schedule\" is no event or call; one of clock, start, finish, cancel, call
@@ -30,7 +26,7 @@ call policy continue flase | \"flase\" is no value; false may be meant; one of t
 finish 0 done 7 | \"done\" is no ending; one of ok, fail
 ";
 
-const SPANS: &str = "\
+pub const SPANS: &str = "\
 call schedule 5ms | unit; a delay has none and is in nanoseconds, as in \"call schedule 5\"
 call schedule 5 ms | unit; a delay has none and is in nanoseconds, as in \"call schedule 5\"
 call schedule +5 | sign; a delay has none, as in \"call schedule 5\"
@@ -52,7 +48,7 @@ call fixed 5 10min | unit; a delay has none and is in nanoseconds, as in \"call 
 call fixed 5 18446744073709551616 | too large; a delay is at most 4611686018427387904
 ";
 
-const TASKS_AND_WORKERS: &str = "\
+pub const TASKS_AND_WORKERS: &str = "\
 call cancel 4294967296 | too large; a task is at most 4294967295
 call cancel 2 ms | unit; a task has none, as in \"call cancel 2\"
 call cancel t2 | no number; a task is wanted, as in \"call cancel 2\"
@@ -60,7 +56,7 @@ cancel 4294967296 | too large; a task is at most 4294967295
 start 256 | too large; a worker is at most 63
 ";
 
-const ENDS_OF_LINES: &str = "\
+pub const ENDS_OF_LINES: &str = "\
 call | too short; call and one of schedule, execute, rate, fixed, cancel, policy, shutdown, shutdown_now, ask
 call schedule | too short; call schedule D
 call rate | too short; call rate F P
@@ -84,35 +80,8 @@ call ask  | space at the end; a line ends with a word
  call ask | space in front; a line begins with a word
 ";
 
-/// The fault that is told of a row's line, which stands by itself in its text, or `fine`.
-fn told_of_row(alloc: Global, row: &str) -> Result<String, AllocError> {
-    let text = with_newline(alloc, before_bar(row))?;
-    match reason_of_live_lines(alloc, text.as_bytes()) {
-        None => String::from_str(alloc, "fine"),
-        Some(reason) => reason.fault.to_string(alloc),
-    }
-}
-
-/// Tells of each line of a table. A row of the table is a line without its newline, then ` | `, and then the fault that is to be
-/// told.
-fn tell(rt: &(impl AllocGlobal + Abort), table: &str) -> Result<(), Fail> {
-    for row in table.lines() {
-        let told = told_of_row(rt.alloc(), row)?;
-        assert!(rt; told.as_str() == behind_bar(row), "{row}: {told}");
-    }
-    Ok(())
-}
-
-#[test]
-fn each_live_line_is_told(rt: HostRuntime) -> Result<(), Fail> {
-    for table in [WORDS, SPANS, TASKS_AND_WORKERS, ENDS_OF_LINES] {
-        tell(&rt, table)?;
-    }
-    Ok(())
-}
-
 /// Texts, and what is told of them.
-const TEXTS: &[(&[u8], &str)] = &[
+pub const TEXTS: &[(&[u8], &str)] = &[
     (b"", "fine"),
     (
         b"call schedule 4611686018427387904\nclock 5\ncall execute\ncall rate 0 1\nstart 255\n\
@@ -138,17 +107,3 @@ const TEXTS: &[(&[u8], &str)] = &[
         "line 2, \"call schedule 00000000000000000000000000\"...: too long; at most 63 bytes with its newline",
     ),
 ];
-
-#[test]
-fn each_live_text_is_told(rt: HostRuntime) -> Result<(), Fail> {
-    for (text, wanted) in TEXTS {
-        match reason_of_live_lines(rt.alloc(), text) {
-            None => assert!(rt; *wanted == "fine", "{wanted}"),
-            Some(reason) => {
-                let told = reason.to_string(rt.alloc())?;
-                assert!(rt; told.as_str() == *wanted, "{wanted}: {told}");
-            }
-        }
-    }
-    Ok(())
-}

@@ -38,6 +38,12 @@ pub const OF_ONE_DELAY: &str = "\
     p:3: \"3 outside 1 yes\": breaks; \"3 error no task\" could stand here | 3 outside 1 yes\n\
     p:3: \"4 outside 0 yes\": breaks; \"4 clock\" or \"3 outside 0 yes\" could stand here | 4 outside 0 yes\n\
     \n\
+    purges | 0 submit 0 schedule due 5 / 3 clock / \n\
+    conforms | 3 purge / 3 purge\n\
+    p:3: \"2 purge\": breaks; \"3 purge\" could stand here | 2 purge\n\
+    p:3: \"4 purge\": breaks; \"4 clock\" or \"3 purge\" could stand here | 4 purge\n\
+    p:4: \"4 purge\": breaks; \"4 clock\" or \"3 purge\" could stand here | 3 outside 0 yes / 4 purge\n\
+    \n\
     errors | 0 submit 0 schedule due 5 / 3 clock / \n\
     p:3: \"3 error busy\": breaks; \"3 start 0 idle\" could stand here | 3 error busy\n\
     p:3: \"2 error not running\": breaks; \"3 start 0 idle\" or \"3 error not running\" could stand here | 2 error not running\n\
@@ -45,6 +51,27 @@ pub const OF_ONE_DELAY: &str = "\
     p:3: \"4 error too far\": breaks; \"4 clock\" or \"3 error too far\" could stand here | 4 error too far\n\
     p:3: \"2 error no worker\": breaks; \"3 error no worker\" could stand here | 2 error no worker\n\
     p:3: \"2 error no task\": breaks; \"3 error no task\" could stand here | 2 error no task";
+
+/// A task that is cancelled while it waits, and an ask.
+pub const A_KEPT_TASK: &str = "\
+version = 1
+
+[[block]]
+call = [
+  { op = \"schedule\", name = \"a\", delay = 10 },
+  { op = \"cancel\", name = \"a\", at = 2 },
+  { op = \"ask\", at = 3 },
+]
+";
+
+/// Tables of texts that are held against `A_KEPT_TASK`.
+pub const OF_A_KEPT_TASK: &str = "\
+    purges before an ask | 0 submit 0 schedule due 10 / 2 cancel 0 yes / \n\
+    conforms | 2 purge / 3 ask queue 0 running 0 shutdown no terminated no / 3 purge\n\
+    conforms | 3 ask queue 1 running 0 shutdown no terminated no / 3 purge\n\
+    p:4: \"3 ask queue 1 running 0 shutdown no term\"...: breaks; \"3 ask queue 0 running 0 shutdown no terminated no\" could stand here | 2 purge / 3 ask queue 1 running 0 shutdown no terminated no\n\
+    p:3: \"3 ask queue 0 running 0 shutdown no term\"...: breaks; \"3 ask queue 1 running 0 shutdown no terminated no\" could stand here | 3 ask queue 0 running 0 shutdown no terminated no\n\
+    p:3: \"3 purge\": breaks; \"3 ask queue 1 running 0 shutdown no terminated no\" or \"2 purge\" could stand here | 3 purge";
 
 /// Tables of texts that are held against `A_RATE`.
 pub const OF_A_RATE: &str = "\

@@ -10,6 +10,9 @@ pub const TABLES: &str = "\
     p:3: \"5  start 0\": two spaces; one space stands between two words; \"5 start 0 task 0 run 0 due 5\" could stand here | 5  start 0\n\
     p:3: \"start 0\": no such line; \"5 start 0 task 0 run 0 due 5\" could stand here | start 0\n\
     p:3: \"clock 7\": no such line; \"7 clock\" could stand here | clock 7\n\
+    p:3: \"5 purge 0\": no such line; \"5 purge\" could stand here | 5 purge 0\n\
+    p:3: \"5 purge \": space at the end; a line ends with a word; \"5 purge\" could stand here | 5 purge \n\
+    p:3: \"purge\": no such line; \"5 purge\" could stand here | purge\n\
     p:3: \"7 clock \": space at the end; a line ends with a word; \"7 clock\" could stand here | 7 clock \n\
     \n\
     words that tell nothing | 0 submit 0 schedule due 5 / 5 clock / \n\

@@ -1,6 +1,6 @@
 //! Which calls take memory, and what a refusal gives back, over a heap of fixed size.
 use super::calls::{code_of, core_over, instrs_of, submissions};
-use super::tells::events_of;
+use super::events::events_of;
 use super::{give, refusal_of};
 use executor_core::{Core, CoreError, make_room};
 use executor_model::{Event, Line};
@@ -10,6 +10,17 @@ use std::alloc::{AllocError, AllocGlobal, Allocator, Global};
 use std::process::Abort;
 use std::test::Fail;
 
+/// Gives a core this event, and tells whether it is taken, without memory.
+fn is_taken_without_memory(
+    heap: &LocalHeap,
+    core: &mut Core<&LocalHeap>,
+    event: Event,
+    out: &mut Vec<Line, &LocalHeap>,
+) -> bool {
+    let used = heap.used();
+    refusal_of(core, event, out).is_none() && heap.used() == used
+}
+
 /// Gives a core these events, and checks that none takes memory.
 fn events_take_no_memory(
     rt: &impl Abort,
@@ -17,13 +28,13 @@ fn events_take_no_memory(
     core: &mut Core<&LocalHeap>,
     out: &mut Vec<Line, &LocalHeap>,
     events: &[Event],
-) -> Result<(), Fail> {
-    let used = heap.used();
+) {
     for event in events {
-        give(core, &[*event], out)?;
-        assert!(rt; heap.used() == used);
+        assert!(rt;
+            is_taken_without_memory(heap, core, *event, out),
+            "{event:?}"
+        );
     }
-    Ok(())
 }
 
 /// How many lines there are, the moment, and how many events and tasks.
@@ -44,7 +55,7 @@ fn numbers_after(
     let mut out = Vec::with_capacity(&heap, room)?;
     let mut core = core_over(&heap, instrs, 2, 100)?;
     assert!(rt; out.capacity() == room);
-    events_take_no_memory(rt, &heap, &mut core, &mut out, events)?;
+    events_take_no_memory(rt, &heap, &mut core, &mut out, events);
     assert!(rt; out.capacity() == room);
     assert!(rt; core.words().len() == core.tasks());
     numbers_of(rt.alloc(), &core, out.len())
@@ -85,24 +96,30 @@ fail 1 1
 clock 1
 ";
 
-#[test]
-fn events_with_room_take_no_memory(rt: HostRuntime) -> Result<(), Fail> {
-    let wanted = "lines 13, moment 9, events 9, tasks 3";
-    take_no_memory(&rt, CALLS, 20, EVENTS, wanted)
-}
-
 /// Three tasks, and then what ends them all: five calls.
-const SWEPT: &[&str] = &[
-    "rate 0 5 1\nfixed 0 5 1\nsubmit 0 1\nset_execute 0 false\nshut_down 0",
-    "rate 0 5 1\nfixed 0 5 1\nsubmit 0 1\nset_execute 0 false\nshut_down_now 0",
+const SWEPT: &str = "rate 0 5 1\nfixed 0 5 1\nsubmit 0 1\nset_execute 0 false\nshut_down 0";
+
+/// The same with a shutdown at once.
+const SWEPT_AT_ONCE: &str =
+    "rate 0 5 1\nfixed 0 5 1\nsubmit 0 1\nset_execute 0 false\nshut_down_now 0";
+
+/// Calls, for how many lines there is room, events, and to what numbers they come. A clock that reaches a sweep needs room for its own
+/// line, one for each of the five calls, and one for each of the three tasks that end.
+const TAKEN: &[(&str, usize, &str, &str)] = &[
+    (CALLS, 20, EVENTS, "lines 13, moment 9, events 9, tasks 3"),
+    (SWEPT, 9, "clock 0", "lines 9, moment 0, events 1, tasks 3"),
+    (
+        SWEPT_AT_ONCE,
+        9,
+        "clock 0",
+        "lines 9, moment 0, events 1, tasks 3",
+    ),
 ];
 
-/// The clock needs room for its own line, one for each of the five calls, and one for each of the three tasks that end.
 #[test]
-fn a_sweep_with_exactly_its_room_takes_no_memory(rt: HostRuntime) -> Result<(), Fail> {
-    for calls in SWEPT {
-        let wanted = "lines 9, moment 0, events 1, tasks 3";
-        take_no_memory(&rt, calls, 9, "clock 0", wanted)?;
+fn events_with_room_take_no_memory(rt: HostRuntime) -> Result<(), Fail> {
+    for (calls, room, events, wanted) in TAKEN {
+        take_no_memory(&rt, calls, *room, events, wanted)?;
     }
     Ok(())
 }

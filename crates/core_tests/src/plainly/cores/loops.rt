@@ -26,15 +26,30 @@ fn asking_core(heap: &LocalHeap, times: u32) -> Result<Core<&LocalHeap>, Fail> {
     )
 }
 
-/// How much of a heap of its own a core takes that asks this many times, as much after it has asked as before.
-fn used_by_loop(rt: &(impl AllocGlobal + Abort), times: u32) -> Result<usize, Fail> {
+/// How many lines a core answers that asks, and how much of its heap is used before and behind that.
+fn asks(
+    rt: &impl AllocGlobal,
+    heap: &LocalHeap,
+    core: &mut Core<&LocalHeap>,
+) -> Result<(usize, usize, usize), Fail> {
+    let before = heap.used();
+    let lines = lines_to_clock(rt, core)?;
+    Ok((lines, before, heap.used()))
+}
+
+/// The same of a core over a heap of its own that asks this many times.
+fn asks_over_heap(rt: &impl AllocGlobal, times: u32) -> Result<(usize, usize, usize), Fail> {
     let heap = LocalHeap::new(rt.alloc(), 1 << 10)?;
     let mut core = asking_core(&heap, times)?;
-    let used = heap.used();
-    let lines = lines_to_clock(rt, &mut core)?;
+    asks(rt, &heap, &mut core)
+}
+
+/// How much of a heap of its own a core takes that asks this many times, as much after it has asked as before.
+fn used_by_loop(rt: &(impl AllocGlobal + Abort), times: u32) -> Result<usize, Fail> {
+    let (lines, before, behind) = asks_over_heap(rt, times)?;
     assert!(rt; lines == times as usize + 1);
-    assert!(rt; heap.used() == used);
-    Ok(used)
+    assert!(rt; behind == before);
+    Ok(before)
 }
 
 #[test]

@@ -37,6 +37,7 @@ const HAPPENINGS: &[Happening] = &[
     Happening::Finish(63, Ending::Value(u64::MAX)),
     Happening::Finish(63, Ending::Fault(u32::MAX)),
     Happening::Cancel(u32::MAX),
+    Happening::Purge,
 ];
 
 #[test]

@@ -1,7 +1,8 @@
 //! Cores and lines of several sizes, with ample memory.
 use super::calls::{code_of, core_over, submissions};
-use super::tells::events_of;
-use super::{lines_of, refusal_of};
+use super::events::events_of;
+use super::lines_of;
+use super::scripts::play_cases;
 use crate::said::text_of_lines;
 use executor_core::{Core, CoreError};
 use executor_model::{Answer, Event, Line, Message};
@@ -58,15 +59,18 @@ fn a_core_without_calls(rt: HostRuntime) -> Result<(), Fail> {
 }
 
 /// A core without calls is given four starts, of which it takes three.
+const LIMITED: &str = "\
+a core takes as many events as its limit
+--
+give start 0 | refused None
+give start 0 | refused None
+give start 0 | refused None
+give start 0 | refused Some(Full) | taken 3, moment 0, tasks 0 | full, room 1, lines 3
+";
+
 #[test]
 fn a_core_takes_as_many_events_as_its_limit(rt: HostRuntime) -> Result<(), Fail> {
-    let mut core = core_over(rt.alloc(), &[], 1, 3)?;
-    let mut out = lines_of(&rt, &mut core, &[Event::Start(0); 3])?;
-    let refused = refusal_of(&mut core, Event::Start(0), &mut out);
-    assert!(rt; refused == Some(CoreError::Full));
-    assert!(rt; core.taken() == 3);
-    assert!(rt; out.len() == 3);
-    Ok(())
+    play_cases(&rt, 3, LIMITED)
 }
 
 /// Numbers of workers, and why no core is made for so many, with a limit of 0.

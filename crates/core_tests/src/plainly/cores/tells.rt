@@ -1,109 +1,104 @@
-//! Scripts: a line is what happens to a core, and what it tells then, with ` | ` before each thing that is told.
-use super::take;
-use crate::told::{byte_of, short_of};
-use crate::words::read_words;
-use executor_core::Core;
-use executor_model::{Event, Happening, Line};
-use sched_time::Ending;
-use std::alloc::{AllocGlobal, Global};
+//! What a core tells, as text: facts, with ` | ` before each.
+use executor_core::{Core, RunEnd};
+use executor_model::{Happening, Line, Message, Need};
+use std::alloc::Global;
 use std::process::Abort;
 use std::test::Fail;
 use task_word::{Phase, Word};
 
-/// The event of a step.
-pub fn event_of(step: &str) -> Result<Event, Fail> {
-    let words = read_words(step)?;
-    let (first, second) = (words.first, words.second);
-    match words.word {
-        "clock" => Ok(Event::Clock(first)),
-        "start" => Ok(Event::Start(byte_of(first))),
-        "finish" => Ok(Event::Finish(byte_of(first), Ending::Value(second))),
-        "fail" => Ok(Event::Finish(byte_of(first), Ending::Fault(short_of(second)))),
-        "cancel" => Ok(Event::Cancel(short_of(first))),
-        _ => Err("no event".into()),
-    }
-}
-
-/// The events of these steps.
-pub fn events_of(alloc: Global, steps: &str) -> Result<Vec<Event>, Fail> {
-    let mut events = Vec::new(alloc);
-    for step in steps.lines() {
-        events.push(event_of(step)?)?;
-    }
-    Ok(events)
-}
-
-/// What happens in a step: the next call, or an event.
-pub fn happening_of(step: &str) -> Result<Happening, Fail> {
-    match step {
-        "call" => Ok(Happening::Call),
-        _ => Ok(event_of(step)?.happening()),
-    }
-}
-
-/// Has what stands in each line of a script happen to a core, and checks what it tells then. Gives the lines that were said.
-pub fn play(
-    rt: &(impl AllocGlobal + Abort),
-    core: &mut Core<Global>,
-    script: &str,
-) -> Result<Vec<Line>, Fail> {
-    let mut out = Vec::new(rt.alloc());
-    for line in script.lines() {
-        let (step, facts) = line.split_once(" | ").ok_or("nothing told")?;
-        take(rt, core, happening_of(step)?, &mut out)?;
-        tells(rt, core, facts, out.len())?;
-    }
-    Ok(out)
-}
-
-/// Checks what a core tells behind so many lines.
-pub fn tells(
-    rt: &(impl AllocGlobal + Abort),
-    core: &Core<Global>,
-    facts: &str,
-    lines: usize,
-) -> Result<(), Fail> {
+/// Checks that each of these facts is told.
+pub fn are_told(rt: &impl Abort, told: &str, facts: &str) {
     for fact in facts.split(" | ") {
-        let (key, _) = fact.split_once(' ').ok_or("no fact")?;
-        let told = fact_of(rt.alloc(), core, key, lines)?;
-        is_told(rt, told.as_str(), fact);
+        assert!(rt; is_among(told, fact), "{fact}: {told}");
+    }
+}
+
+/// Whether a fact is one of these.
+fn is_among(told: &str, fact: &str) -> bool {
+    for one in told.split(" | ") {
+        if one == fact {
+            return true;
+        }
+    }
+    false
+}
+
+/// What a core needs for a happening, by the call that is asked for its kind.
+fn need_for(core: &Core<Global>, happening: Happening) -> Need {
+    match happening {
+        Happening::Call => core.call_need(u64::MAX).unwrap_or(Need::Nothing),
+        Happening::Start(worker) => core.start_need(worker),
+        Happening::Finish(worker, ending) => core.finish_need(worker, ending),
+        Happening::Clock(_) | Happening::Purge => Need::Nothing,
+        Happening::Cancel(task) => core.cancel_need(task),
+    }
+}
+
+/// Adds what is foreseen of a happening: what a core needs for it, and the end of a run, if any.
+pub fn add_ahead(
+    rt: &impl Abort,
+    told: &mut String,
+    core: &Core<Global>,
+    happening: Happening,
+) -> Result<(), Fail> {
+    let foreseen = core.foresee(happening);
+    assert!(rt; foreseen.happening == happening);
+    assert!(rt; foreseen.need == core.need(happening), "{happening:?}");
+    assert!(rt; foreseen.need == need_for(core, happening), "{happening:?}");
+    add_need(told, foreseen.need)?;
+    add_end(told, foreseen.end)
+}
+
+/// Adds a need.
+fn add_need(told: &mut String, need: Need) -> Result<(), Fail> {
+    write!(told, "need {need:?}")?;
+    Ok(())
+}
+
+/// Adds the end of a run, if any: the task, the number of the run, the due moment that the task holds from then on, and the outcome.
+fn add_end(told: &mut String, end: Option<RunEnd>) -> Result<(), Fail> {
+    match end {
+        None => told.push_str(" | no end")?,
+        Some(end) => {
+            let (task, run, due, outcome) = (end.task, end.run, end.due, end.outcome);
+            write!(told, " | end {task} {run} {due} {outcome:?}")?;
+        }
     }
     Ok(())
 }
 
-/// Checks that this is told.
-fn is_told(rt: &impl Abort, told: &str, fact: &str) {
-    assert!(rt; told == fact, "{fact}: {told}");
-}
-
-/// What a core tells: the words, whom the next call would end, or its room.
-fn fact_of(alloc: Global, core: &Core<Global>, key: &str, lines: usize) -> Result<String, Fail> {
-    match key {
-        "words" => short_words(alloc, core.words()),
-        "ends" => next_ends(alloc, core),
-        _ => room_of(alloc, core, lines),
+/// Adds what a core tells behind these lines, of which so many were said before.
+pub fn add_state(
+    told: &mut String,
+    core: &Core<Global>,
+    lines: &[Line],
+    before: usize,
+) -> Result<(), Fail> {
+    add_words(told, core.words())?;
+    add_ends(told, core)?;
+    add_room(told, core, lines.len())?;
+    add_counts(told, core)?;
+    told.push_str(" | said")?;
+    for line in lines.iter().skip(before) {
+        add_line(told, line.moment(), line.message())?;
     }
+    Ok(())
 }
 
-/// A mark where a task is ripe, and where the core is full, its room, and the lines.
-fn room_of(alloc: Global, core: &Core<Global>, lines: usize) -> Result<String, Fail> {
-    let ripe = if core.ripe() { "ripe, " } else { "" };
-    let full = if core.full() { "full, " } else { "" };
-    let room = core.room();
-    Ok(format!(in alloc; "{ripe}{full}room {room}, lines {lines}")?)
-}
-
-/// Which of four tasks the next call would end: the number of each that it ends, and a point for each other one.
-fn next_ends(alloc: Global, core: &Core<Global>) -> Result<String, Fail> {
-    let mut text = String::from_str(alloc, "ends ")?;
-    for task in 0..4u32 {
-        if core.sweeps(task) {
-            write!(text, "{task}")?;
-        } else {
-            text.push_str(".")?;
-        }
+/// Adds the words in short: of each its phase and its run, and a mark where it is cancelled.
+fn add_words(told: &mut String, words: &[Word]) -> Result<(), Fail> {
+    told.push_str(" | words")?;
+    for word in words {
+        add_word(told, *word)?;
     }
-    Ok(text)
+    Ok(())
+}
+
+/// Adds a word in short.
+fn add_word(told: &mut String, word: Word) -> Result<(), Fail> {
+    let mark = if word.is_cancelled() { "!" } else { "" };
+    write!(told, " {}{}{mark}", letter_of(word.phase()), word.run())?;
+    Ok(())
 }
 
 /// The letter of a phase.
@@ -117,18 +112,37 @@ fn letter_of(phase: Phase) -> char {
     }
 }
 
-/// Adds a word in short: its phase and its run, and a mark where it is cancelled.
-fn add_short(text: &mut String, word: Word) -> Result<(), Fail> {
-    let mark = if word.is_cancelled() { "!" } else { "" };
-    write!(text, " {}{}{mark}", letter_of(word.phase()), word.run())?;
+/// Adds which of four tasks the next call would end: the number of each that it ends, and a point for each other one.
+fn add_ends(told: &mut String, core: &Core<Global>) -> Result<(), Fail> {
+    told.push_str(" | ends ")?;
+    for task in 0..4u32 {
+        if core.sweeps(task) {
+            write!(told, "{task}")?;
+        } else {
+            told.push_str(".")?;
+        }
+    }
     Ok(())
 }
 
-/// The words in short: of each its phase and its run, and a mark where it is cancelled.
-fn short_words(alloc: Global, words: &[Word]) -> Result<String, Fail> {
-    let mut text = String::from_str(alloc, "words")?;
-    for word in words {
-        add_short(&mut text, *word)?;
-    }
-    Ok(text)
+/// Adds a mark where a task is ripe, and where the core is full, its room, and how many lines there are.
+fn add_room(told: &mut String, core: &Core<Global>, lines: usize) -> Result<(), Fail> {
+    let ripe = if core.ripe() { "ripe, " } else { "" };
+    let full = if core.full() { "full, " } else { "" };
+    let room = core.room();
+    write!(told, " | {ripe}{full}room {room}, lines {lines}")?;
+    Ok(())
+}
+
+/// Adds how many events were taken, the moment, and how many tasks there are.
+fn add_counts(told: &mut String, core: &Core<Global>) -> Result<(), Fail> {
+    let (taken, now, tasks) = (core.taken(), core.now(), core.tasks());
+    write!(told, " | taken {taken}, moment {now}, tasks {tasks}")?;
+    Ok(())
+}
+
+/// Adds a line.
+fn add_line(told: &mut String, moment: u64, message: Message) -> Result<(), Fail> {
+    write!(told, " {moment} {message:?};")?;
+    Ok(())
 }
