@@ -165,7 +165,7 @@ class Raw:
 WORDS = """version block call at unit times every op name delay first period which value schedule rate fixed cancel policy
 at_unit every_unit delay_unit first_unit period_unit min h d
 shutdown shutdown_now ask continue execute remove true false ns us ms s a b clock start finish ok fail submit refuse illegal
-rejected due yes no none again queue running terminated idle task run done failed dropped ended outside end error backward
+rejected due yes no none again queue running terminated idle task run done failed dropped ended outside purge end error backward
 too far worker busy not""".split()
 STRANGE_NAMES = ['""', '"a b"', '"' + "a" * 32 + '"', '"' + "a" * 33 + '"', '"none"', '"a.b"', '"\\u00e9"', '"-_9Z"']
 STRANGE_BYTES = (b"\0", b"\n", b"\r\n", b" ", b"\xff", b"\xc3\xa9", b'"', b"]", b"0", b"#", b"=")

@@ -52,7 +52,7 @@ struct heap {
 
 /* What the last call answered, of which its lines are written. */
 enum answer {
-    NOTHING, SUBMITTED, REJECTED, OUTSIDE, POLICY, SHUTDOWN, SHUTDOWN_AGAIN, SHUTDOWN_NOW, ASKED, CLOCK, STARTED, IDLE, FINISHED
+    NOTHING, SUBMITTED, REJECTED, OUTSIDE, PURGED, POLICY, SHUTDOWN, SHUTDOWN_AGAIN, SHUTDOWN_NOW, ASKED, CLOCK, STARTED, IDLE, FINISHED
 };
 
 struct last {
@@ -362,6 +362,15 @@ timers_status timers_ref_cancel(timers_slot *slot, const timers_ref *task, uint3
     return TIMERS_DONE;
 }
 
+timers_status timers_ref_purge(timers_slot *slot) {
+    struct timers *t = timers_in(slot);
+    struct last last = {PURGED, 0, 0, 0, 0, 0};
+    if (t == NULL) return TIMERS_NO_TIMERS;
+    while (t->kept.size > 0) drop_first_kept(t);
+    note(t, last);
+    return TIMERS_DONE;
+}
+
 /* Polls. */
 
 static void begin(struct timers *t, uint32_t worker, timers_run *run) {
@@ -500,6 +509,16 @@ timers_status timers_ref_next_due(timers_slot *slot, uint64_t *due) {
     if (t == NULL) return TIMERS_NO_TIMERS;
     if (t->queue.size == 0) return TIMERS_IDLE;
     *due = t->queue.entries[0].due;
+    return TIMERS_DONE;
+}
+
+timers_status timers_ref_head_due(timers_slot *slot, uint64_t *due) {
+    struct timers *t = timers_in(slot);
+    *due = 0;
+    if (t == NULL) return TIMERS_NO_TIMERS;
+    if (t->queue.size == 0 && t->kept.size == 0) return TIMERS_IDLE;
+    if (t->queue.size == 0 || (t->kept.size > 0 && comes_before(t->kept.entries, t->queue.entries))) *due = t->kept.entries[0].due;
+    else *due = t->queue.entries[0].due;
     return TIMERS_DONE;
 }
 
@@ -676,6 +695,7 @@ static size_t write_answer(const struct timers *t, char *line) {
     case SUBMITTED: return add(line, length, "submit %" PRIu64 " %s due %" PRIu64 "\n", last->number, kinds[last->kind], last->value);
     case REJECTED: return add(line, length, "refuse %" PRIu64 " rejected\n", last->number);
     case OUTSIDE: return add(line, length, "outside %" PRIu64 " %s\n", last->number, effects[last->kind]);
+    case PURGED: return add(line, length, "purge\n");
     case POLICY: return add(line, length, "policy %s %s\n", policies[last->kind], last->value ? "true" : "false");
     case SHUTDOWN: return add(line, length, "shutdown\n");
     case SHUTDOWN_AGAIN: return add(line, length, "shutdown again\n");

@@ -93,7 +93,7 @@ static void submissions_without_timers(void) {
     WANT(timers_rate(&slot, 1, 1, 0, 1, &task) == TIMERS_NO_TIMERS && is_ref(task, 0, 0));
     task = sevens_ref;
     WANT(timers_fixed(&slot, 1, 1, 0, 1, &task) == TIMERS_NO_TIMERS && is_ref(task, 0, 0));
-    WANT(timers_cancel(&slot, task, &effect) == TIMERS_NO_TIMERS && effect == 0);
+    WANT(timers_cancel(&slot, task, &effect) == TIMERS_NO_TIMERS && effect == 0 && timers_purge(&slot) == TIMERS_NO_TIMERS);
     WANT(timers_poll(&slot, 1, 64, &run) == TIMERS_NO_TIMERS && is_run(run, no_task, 0, 0, 0, 0));
     run = sevens_run;
     WANT(timers_poll_many(&slot, 1, &run, 1, &many) == TIMERS_NO_TIMERS && many == 0 && is_run(run, sevens_ref, 7, 7, 7, 7));
@@ -119,6 +119,8 @@ static void looks_without_timers(void) {
     uint64_t due = 7;
     uint32_t first = 7;
     WANT(timers_next_due(&slot, &due) == TIMERS_NO_TIMERS && due == 0);
+    due = 7;
+    WANT(timers_head_due(&slot, &due) == TIMERS_NO_TIMERS && due == 0);
     WANT(timers_task_of(&slot, sevens_ref, &task) == TIMERS_NO_TIMERS && is_task(task, 0, 0, 0, 0));
     WANT(timers_state_of(&slot, &state) == TIMERS_NO_TIMERS);
     WANT(state.now == 0 && state.numbers == 0 && state.alive == 0 && state.ended == 0 && state.lines == 0);
@@ -146,6 +148,7 @@ static void submissions_with_null(timers_slot *slot) {
     WANT(timers_rate(NULL, 1, 1, 1, 1, &task) == TIMERS_NULL && timers_rate(slot, 1, 1, 1, 1, NULL) == TIMERS_NULL);
     WANT(timers_fixed(NULL, 1, 1, 1, 1, &task) == TIMERS_NULL && timers_fixed(slot, 1, 1, 1, 1, NULL) == TIMERS_NULL);
     WANT(timers_cancel(NULL, task, &effect) == TIMERS_NULL && timers_cancel(slot, task, NULL) == TIMERS_NULL);
+    WANT(timers_purge(NULL) == TIMERS_NULL);
     WANT(timers_poll(NULL, 1, 0, &run) == TIMERS_NULL && timers_poll(slot, 1, 0, NULL) == TIMERS_NULL);
     WANT(timers_poll_many(NULL, 1, &run, 1, &many) == TIMERS_NULL && timers_poll_many(slot, 1, &run, 1, NULL) == TIMERS_NULL);
     WANT(timers_poll_many(slot, 1, NULL, 1, &many) == TIMERS_NULL);
@@ -169,6 +172,7 @@ static void looks_with_null(timers_slot *slot) {
     uint64_t due = 7;
     uint32_t first = 7;
     WANT(timers_next_due(NULL, &due) == TIMERS_NULL && timers_next_due(slot, NULL) == TIMERS_NULL && due == 7);
+    WANT(timers_head_due(NULL, &due) == TIMERS_NULL && timers_head_due(slot, NULL) == TIMERS_NULL && due == 7);
     WANT(timers_task_of(NULL, no_task, &task) == TIMERS_NULL && timers_task_of(slot, no_task, NULL) == TIMERS_NULL);
     WANT(is_task(task, 7, 7, 7, 7));
     WANT(timers_state_of(NULL, &state) == TIMERS_NULL && timers_state_of(slot, NULL) == TIMERS_NULL && state.now == 7);
@@ -201,16 +205,16 @@ static void with_null(void) {
     WANT(state_of(&slot).now == 0 && says(&slot, "") && timers_free(&slot) == TIMERS_DONE);
 }
 
-/* Timers are made in an empty slot, for 1 to 64 workers. */
+/* Timers are made in an empty slot, for 1 to 255 workers. */
 static void workers(void) {
     timers_slot slot = TIMERS_EMPTY;
     timers_run run = sevens_run;
     for (uint32_t worker = 0; worker <= 3; worker++) {
-        const uint32_t wrong[] = {0, 65, 256, UINT32_MAX};
+        const uint32_t wrong[] = {0, 256, 257, UINT32_MAX};
         WANT(timers_new(&slot, wrong[worker]) == TIMERS_WORKERS && slot.hidden == NULL && !slot.full);
     }
-    WANT(timers_new(&slot, 64) == TIMERS_DONE && timers_new(&slot, 0) == TIMERS_HAS_TIMERS && slot.full);
-    WANT(timers_poll(&slot, 0, 63, &run) == TIMERS_IDLE && timers_poll(&slot, 0, 64, &run) == TIMERS_NO_WORKER);
+    WANT(timers_new(&slot, 255) == TIMERS_DONE && timers_new(&slot, 0) == TIMERS_HAS_TIMERS && slot.full);
+    WANT(timers_poll(&slot, 0, 254, &run) == TIMERS_IDLE && timers_poll(&slot, 0, 255, &run) == TIMERS_NO_WORKER);
     met = false;
     refused = -1;
     timers_status status = timers_new(&slot, 1);
@@ -441,6 +445,27 @@ static void cancels_of_waiting(void) {
     WANT(timers_cancel(&slot, removed, &effect) == TIMERS_DONE && effect == TIMERS_CANCEL_YES && state_of(&slot).alive == 0);
     WANT(timers_task_of(&slot, removed, &task) == TIMERS_DONE && is_task(task, TIMERS_TASK_GONE, 0, 0, 0));
     WANT(timers_cancel(&slot, removed, &effect) == TIMERS_DONE && effect == TIMERS_CANCEL_NO && says(&slot, "5 outside 3 no\n"));
+    WANT(timers_free(&slot) == TIMERS_DONE);
+}
+
+/* Purges: each task that is kept leaves the queue, and no other; and the head of the queue. */
+static void purges(void) {
+    timers_slot slot = made(1);
+    timers_task task = sevens_task;
+    timers_ref kept = scheduled(&slot, 0, 4, 70), waits = scheduled(&slot, 0, 5, 71), late = scheduled(&slot, 0, 6, 72);
+    uint32_t effect = 7, first = 7;
+    uint64_t due = 7;
+    WANT(timers_purge(&slot) == TIMERS_DONE && says(&slot, "0 purge\n") && state_of(&slot).alive == 3);
+    WANT(timers_cancel(&slot, kept, &effect) == TIMERS_DONE && timers_cancel(&slot, late, &effect) == TIMERS_DONE);
+    WANT(timers_head_due(&slot, &due) == TIMERS_DONE && due == 4);
+    WANT(timers_next_due(&slot, &due) == TIMERS_DONE && due == 5 && says(&slot, "0 outside 2 yes\n"));
+    WANT(timers_purge(&slot) == TIMERS_DONE && says(&slot, "0 purge\n") && state_of(&slot).alive == 1);
+    WANT(timers_task_of(&slot, kept, &task) == TIMERS_DONE && is_task(task, TIMERS_TASK_GONE, 0, 0, 0));
+    WANT(timers_task_of(&slot, waits, &task) == TIMERS_DONE && is_task(task, TIMERS_TASK_WAITING, 0, 0, 5));
+    WANT(timers_head_due(&slot, &due) == TIMERS_DONE && due == 5);
+    WANT(timers_shutdown(&slot, 1, &first) == TIMERS_DONE && timers_cancel(&slot, waits, &effect) == TIMERS_DONE);
+    WANT(state_of(&slot).alive == 1 && timers_purge(&slot) == TIMERS_DONE && says(&slot, "1 purge\n"));
+    WANT(state_of(&slot).terminated && timers_head_due(&slot, &due) == TIMERS_IDLE && due == 0 && says(&slot, "1 purge\n"));
     WANT(timers_free(&slot) == TIMERS_DONE);
 }
 
@@ -695,6 +720,7 @@ static void without_memory(timers_slot *slot, timers_ref first, timers_ref last)
     const timers_ending ending = {1, 0, 0};
     WANT(timers_finish_many(slot, 100, &ending, &end, 1, &many) == TIMERS_DONE);
     WANT(timers_task_of(slot, first, &task) == TIMERS_DONE && timers_ask(slot, 101, &counts) == TIMERS_DONE && counts.queue == 61);
+    WANT(timers_purge(slot) == TIMERS_DONE && timers_head_due(slot, &due) == TIMERS_DONE && due == 100);
     WANT(timers_schedule(slot, 101, 1, 1, &first) == TIMERS_DONE && timers_set_policy(slot, 101, 1, false) == TIMERS_DONE);
     WANT(timers_shutdown(slot, 101, &word) == TIMERS_DONE && timers_schedule(slot, 101, 1, 1, &first) == TIMERS_SHUT);
     WANT(timers_shutdown_now(slot, 101) == TIMERS_DONE && state_of(slot).ended == 60);
@@ -799,6 +825,7 @@ int main(int count, char **words) {
     polls_of_many();
     finishes_of_many();
     cancels_of_waiting();
+    purges();
     cancels_of_others();
     policies();
     shutdowns();

@@ -66,7 +66,12 @@ static void submit(player *p) {
     printf("submit %" PRIu32 " %" PRIu64 "\n", status, task.number);
 }
 
+/* Cancels, or purges, which is seldom, so that tasks are kept. */
 static void cancel(player *p) {
+    if (below(p, 20) == 0) {
+        printf("purge %" PRIu32 "\n", timers_purge(&p->slot));
+        return;
+    }
     uint32_t effect = 9;
     timers_status status = timers_cancel(&p->slot, any_task(p), &effect);
     printf("cancel %" PRIu32 " %" PRIu32 "\n", status, effect);
@@ -136,6 +141,8 @@ static void look(player *p) {
     printf("task %" PRIu32 " %" PRIu64 " %" PRIu64 " %" PRIu32 " %" PRIu32 "\n", status, task.run, task.due, task.phase, task.cancelled);
     status = timers_next_due(&p->slot, &due);
     printf("next %" PRIu32 " %" PRIu64 "\n", status, due);
+    status = timers_head_due(&p->slot, &due);
+    printf("head %" PRIu32 " %" PRIu64 "\n", status, due);
     if (below(p, 4) > 0) return;
     status = timers_ask(&p->slot, moment(p), &counts);
     printf("ask %" PRIu32 " %zu %zu %" PRIu32 " %" PRIu32 "\n", status, counts.queue, counts.running, counts.shut, counts.terminated);

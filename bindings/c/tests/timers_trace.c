@@ -170,6 +170,12 @@ static uint32_t cancel(scene *s, timers_ref task) {
     return effect;
 }
 
+/* So does a purge. */
+static void purge(scene *s) {
+    DEMAND(timers_purge(&s->slot) == TIMERS_DONE);
+    note_lines(s);
+}
+
 /* Polls, and answers whether a run was begun, which was due. */
 static bool poll(scene *s, uint32_t worker, timers_run *run) {
     timers_status status = timers_poll(&s->slot, now(), worker, run);
@@ -263,7 +269,7 @@ static void delays(scene *s) {
     }
 }
 
-/* Cancels of tasks that wait, are kept, are run, are over, or were rejected. */
+/* Cancels of tasks that wait, are kept, are run, are over, or were rejected, and a purge of one that is kept. */
 static void cancels(scene *s) {
     timers_run run;
     timers_ref kept = schedule(s, now(), MILLISECOND), done = execute(s), waits = schedule(s, now(), 300 * MILLISECOND);
@@ -274,6 +280,9 @@ static void cancels(scene *s) {
     DEMAND(next(s, &run) && run.task.number == beat.number && ask(s).queue == 1);
     DEMAND(cancel(s, kept) == TIMERS_CANCEL_NO && finish(s, 0).outcome == TIMERS_OUTCOME_AGAIN);
     DEMAND(next(s, &run) && run.run == 1 && cancel(s, beat) == TIMERS_CANCEL_YES && finish(s, 0).outcome == TIMERS_OUTCOME_DROPPED);
+    DEMAND(cancel(s, schedule(s, now(), 300 * MILLISECOND)) == TIMERS_CANCEL_YES && ask(s).queue == 2);
+    purge(s);
+    DEMAND(ask(s).queue == 1);
     set_policy(s, TIMERS_POLICY_REMOVE, true);
     timers_ref gone = schedule(s, now(), MILLISECOND);
     DEMAND(cancel(s, gone) == TIMERS_CANCEL_YES && cancel(s, gone) == TIMERS_CANCEL_NO && ask(s).queue == 1);

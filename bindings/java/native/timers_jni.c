@@ -94,13 +94,14 @@ JAVA(jlong, address)(JNIEnv *env, jclass java, jobject buffer) {
     return (jlong)(uintptr_t)(*env)->GetDirectBufferAddress(env, buffer);
 }
 
-/* Makes timers; 0 where there is no memory. */
+/* Makes timers. 0: there is no memory; below FAULT: a status that no pool gets. */
 JAVA(jlong, make)(JNIEnv *env, jclass java, jint workers) {
     (void)env; (void)java;
     struct pool *pool = calloc(1, sizeof *pool);
-    if (pool != NULL && timers_ref_new(&pool->timers, (uint32_t)workers) == TIMERS_DONE) return (jlong)(uintptr_t)pool;
+    timers_status status = pool == NULL ? (timers_status)TIMERS_NO_MEMORY : timers_ref_new(&pool->timers, (uint32_t)workers);
+    if (status == TIMERS_DONE) return (jlong)(uintptr_t)pool;
     free(pool);
-    return 0;
+    return status == TIMERS_NO_MEMORY ? 0 : FAULT - (jlong)status;
 }
 
 /* Frees them. */

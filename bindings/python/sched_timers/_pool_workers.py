@@ -11,6 +11,10 @@ wakes all workers, and so does the first that finds none: then they end.
 The threads know nothing of the pool that they belong to, so it is dropped with its last name. The
 drop comes at any moment, perhaps in a thread that has the lock: it leaves a word, and wakes all.
 The first worker that finds the word ends the pool.
+
+So may any other call come, from a `__del__`. Where its thread has the lock, what it changes of the
+timers is put off until that is given back. Which of two calls has a job is told by who takes it out
+of `jobs`, which is one step of the interpreter.
 """
 
 from __future__ import annotations
@@ -18,7 +22,6 @@ from __future__ import annotations
 import atexit
 import functools
 import itertools
-import logging
 import os
 import threading
 import time
@@ -28,16 +31,16 @@ from concurrent.futures.thread import BrokenThreadPool
 from dataclasses import dataclass
 from typing import Any, TypeVar
 
+from sched_timers._gate import LOGGER, Gate
 from sched_timers._sleepers import Sleepers
 from sched_timers._spans import NANOSECONDS
 from sched_timers.scheduled_future import ScheduledFuture
-from sched_timers.timers import Outcome, Phase, Policy, TaskRef, Timers
+from sched_timers.timers import Counts, Outcome, Phase, Policy, RejectedError, TaskRef, Timers
 
 T = TypeVar("T")
 
 FAILURE = 1
 LONGEST_WAIT = threading.TIMEOUT_MAX / 2   # seconds, some 146 years
-LOGGER = logging.getLogger("sched_timers")
 _ALL: weakref.WeakSet[Workers] = weakref.WeakSet()
 
 
@@ -56,12 +59,12 @@ class Workers:
     def __init__(self, count: int, name: str, initializer: Callable[..., object] | None,
                  initargs: tuple[Any, ...]) -> None:
         self.timers = Timers(count)
-        # A thread that has it may come back to it, as what collects garbage calls anything.
-        self.lock = threading.RLock()
+        self.lock = Gate()
         # Those that may be withdrawn: of tasks that wait, or run again and again.
         self.jobs: dict[int, Job] = {}
         self._keys = itertools.count()
         self.sleepers = Sleepers(count)
+        self._running = 0
         self._is_dropped = False
         self._broken: str | None = None
         # A task that is cancelled leaves at once: none can see it, and a kept one would hold up
@@ -85,10 +88,20 @@ class Workers:
 
     def submit(self, call: Callable[[], Any], submit: Callable[..., TaskRef], *spans: int,
                is_periodic: bool = False) -> ScheduledFuture[Any]:
-        """Submits a job. It is there before its task is, so that whatever comes of the task finds
-        it."""
+        """Submits a job. One that is put off is refused by its future."""
         key = next(self._keys)
         job = Job(ScheduledFuture(self, key), call, is_periodic)
+        if self.lock.is_mine():
+            self.jobs[key] = job
+            self.lock.put_off(functools.partial(self._submit_later, job, submit, spans))
+        else:
+            self._submit(job, submit, spans)
+        return job.future
+
+    def _submit(self, job: Job, submit: Callable[..., TaskRef], spans: tuple[int, ...]) -> None:
+        """Submits a job, which is there before its task is, so that whatever comes of the task
+        finds it."""
+        key = job.future._key
         with self.lock:
             if self._broken is not None:
                 raise BrokenThreadPool(self._broken)
@@ -99,20 +112,53 @@ class Workers:
                 self.jobs.pop(key, None)
                 raise
             self.sleepers.call(self.timers.next_due())
-        return job.future
+
+    def _submit_later(self, job: Job, submit: Callable[..., TaskRef],
+                      spans: tuple[int, ...]) -> None:
+        """Submits a job that was put off, unless it was withdrawn since then."""
+        key = job.future._key
+        try:
+            with self.lock:
+                if key in self.jobs:
+                    self._submit(job, submit, spans)
+        except RejectedError:
+            job.future._is_withdrawn = True
+            _tell(job.future._end_cancelled)
+        except Exception as refused:
+            self.jobs.pop(key, None)
+            _tell(job.future.set_exception, refused)
 
     def withdraw(self, future: ScheduledFuture[Any]) -> bool:
-        """Cancels the task of a future, where that may still be, and says whether this call
-        did."""
+        """Cancels the task of a future, where that may still be, and says whether the caller is to
+        tell the future so."""
+        if self.lock.is_mine():
+            if self._take_out(future):
+                self.lock.put_off(functools.partial(self._end_withdrawn, future))
+            return False
         with self.lock:
-            job = self.jobs.get(future._key)
-            if job is None or future._task is None:
-                return False
+            is_taken_out = self._take_out(future)
+            if is_taken_out:
+                self._cancel_task(future)
+        return is_taken_out
+
+    def _take_out(self, future: ScheduledFuture[Any]) -> bool:
+        """Takes the job of a future out, where it is there. No run of it begins then."""
+        if self.jobs.pop(future._key, None) is None:
+            return False
+        future._is_withdrawn = True
+        return True
+
+    def _cancel_task(self, future: ScheduledFuture[Any]) -> None:
+        """Cancels the task of a future, where it has one. The caller holds the lock."""
+        if future._task is not None:
             self.timers.cancel(future._task)
-            self.jobs.pop(future._key, None)
-            future._is_withdrawn = True
             self._wake_all_if_terminated()
-            return True
+
+    def _end_withdrawn(self, future: ScheduledFuture[Any]) -> None:
+        """Does for a future what was put off as its job was taken out."""
+        with self.lock:
+            self._cancel_task(future)
+        _tell(future._end_cancelled)
 
     def remaining(self, task: TaskRef) -> float | None:
         """How many seconds are left until a run is due; None where none comes."""
@@ -122,9 +168,22 @@ class Workers:
                 return None
             return (state.due - time.monotonic_ns()) / NANOSECONDS
 
+    def counts(self) -> Counts:
+        """How many tasks wait, and how many run."""
+        if not self.lock.is_mine():
+            with self.lock:
+                return self.timers.ask(time.monotonic_ns())
+        # A question is a call, after which the timers no more tell what the one before it ended.
+        state = self.timers.state()
+        waiting = state.alive - self._running
+        return Counts(waiting, self._running, state.shut, state.terminated)
+
     def end_tasks(self, *calls: Callable[[int], object]) -> None:
         """Makes calls on the timers, each at its moment, and tells the futures of the tasks that
         they end."""
+        if self.lock.is_mine():
+            self.lock.put_off(functools.partial(self.end_tasks, *calls))
+            return
         ended: list[Job] = []
         with self.lock:
             for call in calls:
@@ -150,9 +209,11 @@ class Workers:
 
     def join(self, timeout: float | None) -> bool:
         """Waits for the end of the threads, at most so many seconds, and says whether they have
-        ended. One of them would wait for itself."""
+        ended. One of them would wait for itself, and who has the lock for what it holds up."""
         if threading.current_thread() in self.threads:
             raise RuntimeError("cannot join current thread")
+        if self.lock.is_mine():
+            raise RuntimeError("cannot wait for a pool within a call of it")
         deadline = None if timeout is None else time.monotonic() + min(timeout, LONGEST_WAIT)
         for thread in self.threads:
             thread.join(None if deadline is None else max(0.0, deadline - time.monotonic()))
@@ -195,7 +256,7 @@ class Workers:
         if not found.is_periodic:
             found.future.set_running_or_notify_cancel()
         value, failure = _ran(found.call)
-        match self._finish(worker, failure is not None):
+        match self._finish(worker, found, failure is not None):
             case Outcome.DONE:
                 _tell(found.future.set_result, value)
             case Outcome.FAILED:
@@ -214,14 +275,13 @@ class Workers:
         with self.lock:
             run = self.timers.poll(time.monotonic_ns(), worker)
             if run is not None:
+                self._running += 1
                 self.sleepers.call(self.timers.next_due())
                 job = self.jobs.get(run.data)
-                if job is None:
-                    # It was withdrawn as its run began: the run is ended, and nobody is told.
-                    return Job(ScheduledFuture(self, run.data), _nothing, False)
-                if not job.is_periodic:
-                    self.jobs.pop(run.data, None)
-                return job
+                if job is not None and not job.is_periodic:
+                    job = self.jobs.pop(run.data, None)
+                # Where it was withdrawn as its run began, the run is ended, and nobody is told.
+                return job or Job(ScheduledFuture(self, run.data), _nothing, False)
             if self.timers.state().terminated:
                 self.sleepers.wake_all()
                 return None
@@ -233,7 +293,7 @@ class Workers:
         with self.lock:
             self.sleepers.rise(worker)
 
-    def _finish(self, worker: int, has_failed: bool) -> Outcome:
+    def _finish(self, worker: int, job: Job, has_failed: bool) -> Outcome:
         """Ends the run of a worker, and says what becomes of the task."""
         with self.lock:
             now = time.monotonic_ns()
@@ -241,8 +301,10 @@ class Workers:
                 end = self.timers.fail(now, worker, FAILURE)
             else:
                 end = self.timers.finish(now, worker)
-            is_over = end.outcome in (Outcome.FAILED, Outcome.ENDED)
-            if is_over and (job := self.jobs.pop(end.data, None)) is not None:
+            self._running -= 1
+            if job.is_periodic and end.outcome in (Outcome.FAILED, Outcome.ENDED):
+                if self.jobs.pop(end.data, None) is None:
+                    return Outcome.DROPPED   # it was withdrawn as its run ended
                 is_ended = end.outcome is Outcome.ENDED
                 job.future._is_withdrawn = is_ended and self._broken is None
             return end.outcome
@@ -291,7 +353,6 @@ def _tell(tell: Callable[..., object], *words: Any) -> None:
         LOGGER.exception("exception calling a callback of a future")
 
 
-@atexit.register
 def _end_all() -> None:
     """Ends all pools, also those that are made meanwhile, and waits for the runs that are under way
     or due."""
@@ -304,4 +365,9 @@ def _end_all() -> None:
         ended += left
 
 
+# As in `concurrent.futures`, before what the program has registered with `atexit`, so that no run
+# goes on beside that; and once more, for pools that other threads made after it.
+_register_first = getattr(threading, "_register_atexit", atexit.register)
+_register_first(_end_all)
+atexit.register(_end_all)
 os.register_at_fork(after_in_child=_ALL.clear)

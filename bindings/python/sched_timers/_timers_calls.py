@@ -21,7 +21,7 @@ class Status(LibraryStatus):
     NO_MEMORY = 1, "out of memory"
     NO_TIMERS = 2, "the timers are closed"
     HAS_TIMERS = 3, "the slot has timers already"
-    WORKERS = 4, "the number of workers is not 1 to 64"
+    WORKERS = 4, "the number of workers is not 1 to 255"
     SHUT = 5, "the timers are shut"
     ILLEGAL = 6, "a period is 0, a code too large, or there is no such policy"
     TOO_LONG = 7, "a span is above 2^62 nanoseconds"
@@ -118,7 +118,8 @@ def library() -> Library:
         "poll_many": [moment, out(Run), size, out(ctypes.c_size_t)],
         "finish": [moment, number, value, out(End)], "fail": [moment, number, number, out(End)],
         "finish_many": [moment, out(Ending), size, out(End), size, out(ctypes.c_size_t)],
-        "next_due": [out(ctypes.c_uint64)], "task_of": [out(Ref), out(Task)],
+        "purge": [], "next_due": [out(ctypes.c_uint64)], "head_due": [out(ctypes.c_uint64)],
+        "task_of": [out(Ref), out(Task)],
         "state_of": [out(State)], "ask": [moment, out(Counts)],
         "set_policy": [moment, number, Flag], "shutdown": [moment, out(ctypes.c_uint32)],
         "shutdown_now": [moment], "ended": [size, out(Gone)],

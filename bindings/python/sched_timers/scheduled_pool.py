@@ -17,8 +17,15 @@ one is next are those of `timers.py`.
 A pool that is shut down runs what waits, as its policies say. One that is dropped without that,
 and each one at the end of the program, does what is under way or due, as `concurrent.futures`
 does, and cancels what is due later: nobody is left to stop that, and it might hold up the end for
-days. The end of the program waits for the runs. A pool is not dropped while one of its own tasks
-that waits or runs refers to it.
+days. The end of the program waits for the runs, before it calls what was registered with `atexit`;
+it begins as the main thread ends, so a thread that goes on submits in vain from then on, as in
+`concurrent.futures`. A pool is not dropped while one of its own tasks that waits or runs refers to
+it.
+
+A `__del__` may call a pool. Where the collector of garbage runs it in the midst of a call of that
+same pool, its call is done once that one is through: a cancel has its effect at once, and tells its
+future then; a submission that is refused is cancelled, or has the error as its exception; and who
+would wait for the end of the pool gets a RuntimeError.
 
 No call is made from a signal handler, and a forked child has no pools. `_pool_workers` and
 `_sleepers` say how the threads work together.
@@ -29,7 +36,6 @@ from __future__ import annotations
 import functools
 import itertools
 import os
-import time
 import weakref
 from collections.abc import Callable
 from concurrent.futures import Executor
@@ -52,7 +58,7 @@ _POOL_NUMBERS = itertools.count()
 
 
 class ScheduledThreadPoolExecutor(Executor):
-    """A pool of 1 to 64 threads, which it starts at once. Another number is a ValueError; without
+    """A pool of 1 to 255 threads, which it starts at once. Another number is a ValueError; without
     one there are as many as ThreadPoolExecutor has at most.
 
     Their names begin with `thread_name_prefix`. Each calls `initializer(*initargs)` first, where
@@ -131,8 +137,7 @@ class ScheduledThreadPoolExecutor(Executor):
 
     def counts(self) -> Counts:
         """How many tasks wait, and how many run."""
-        with self._workers.lock:
-            return self._workers.timers.ask(time.monotonic_ns())
+        return self._workers.counts()
 
     @property
     def continues_periodic(self) -> bool:

@@ -78,7 +78,7 @@ __all__ = ["CodeTooLargeError", "Counts", "Effect", "End", "Ending", "Gone",
 
 
 class Timers(Lined):
-    """Timers for 1 to 64 workers, whom calls name from 0.
+    """Timers for 1 to 255 workers, whom calls name from 0.
 
     The texts of all calls, taken by `text` after each, are the trace that `sched check` takes
     beside a plan with the submissions, the policies, the shutdowns and the questions, at the
@@ -127,6 +127,11 @@ class Timers(Lined):
         effect = ctypes.c_uint32()
         self._tell("cancel", _ref(task), effect)
         return Effect(effect.value)
+
+    def purge(self) -> None:
+        """Takes each task out of the queue that was cancelled while it waited, and is kept. No other
+        task changes. It is made now, also where the timers are shut."""
+        self._tell("purge")
 
     def poll(self, now: int, worker: int = 0) -> Run | None:
         """Begins a run for a worker that has none under way, or answers None where nothing is due:
@@ -182,6 +187,12 @@ class Timers(Lined):
         None where no task waits."""
         due = ctypes.c_uint64()
         return due.value if self._finds("next_due", due) else None
+
+    def head_due(self) -> int | None:
+        """The moment at which the head of the queue is due, which waits or is kept, before which no
+        poll takes a task out of the queue; None where the queue is empty."""
+        due = ctypes.c_uint64()
+        return due.value if self._finds("head_due", due) else None
 
     def task(self, task: TaskRef) -> TaskState:
         """How far a task is: the one of the number, whatever the slot."""

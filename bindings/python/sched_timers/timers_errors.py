@@ -39,7 +39,7 @@ class TimersClosedError(TimersError, ClosedError):
 
 
 class WorkerCountError(TimersError, ValueError):
-    """The number of workers is not 1 to 64."""
+    """The number of workers is not 1 to 255."""
 
     status = Status.WORKERS
 

@@ -10,7 +10,7 @@ TOP = PYTHON.parent.parent
 PAGES = ["docs/EMBEDDING.md", "bindings/python/README.md"]
 # What shows what it does by examples. What has the calls of a header alone, or only types, has
 # none.
-SHOWN = ["", "._numbers", "._sleepers", "._spans", ".delay_queue", ".errors", ".executor",
+SHOWN = ["", "._gate", "._numbers", "._sleepers", "._spans", ".delay_queue", ".errors", ".executor",
          ".scheduled_pool", ".timers", ".timers_answers"]
 
 

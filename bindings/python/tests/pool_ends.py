@@ -166,6 +166,29 @@ def program_ends():
     assert ended.returncode == 0 and time.monotonic() < begun + PATIENCE
 
 
+HANDLED = """
+import atexit, sys, threading, time
+sys.path.insert(0, sys.argv[1])
+from sched_timers import ScheduledThreadPoolExecutor
+
+begun = threading.Event()
+pool = ScheduledThreadPoolExecutor(1)
+atexit.register(print, "handler")
+pool.submit(lambda: (begun.set(), time.sleep(0.2), print("run")))
+pool.submit(print, "due")
+begun.wait()
+"""
+
+
+def program_ends_before_handlers():
+    """What runs and is due at the end of the program is through before the handlers that it has
+    registered are called."""
+    words = [sys.executable, "-u", "-c", HANDLED, PYTHON]
+    ended = subprocess.run(words, stdout=subprocess.PIPE, stderr=subprocess.STDOUT, text=True,
+                           timeout=PATIENCE)
+    assert ended.stdout == "run\ndue\nhandler\n" and ended.returncode == 0, ended.stdout
+
+
 FORKED = """
 import os, sys, threading, time
 sys.path.insert(0, sys.argv[1])
@@ -195,5 +218,6 @@ def forked():
     assert ended.returncode == 0 and ended.stdout == "child 5\n", ended.stdout
 
 
-try_all(own_jobs, waits, drops, drops_in_use, drops_by_jobs, program_ends, forked)
+try_all(own_jobs, waits, drops, drops_in_use, drops_by_jobs, program_ends,
+        program_ends_before_handlers, forked)
 print("each answer came")

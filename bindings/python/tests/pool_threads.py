@@ -28,12 +28,12 @@ def counts():
     assert count_of(4) == 8 and count_of(1) == 5 and count_of(None) == 5 and count_of(200) == 32
     with concurrent.futures.ThreadPoolExecutor() as usual, pool_of(None) as pool:
         assert len(pool._workers.threads) == usual._max_workers
-    for workers in (1, 64):
+    for workers in (1, 255):
         with pool_of(workers) as pool:
             assert len(pool._workers.threads) == workers
-    for workers in (0, 65, 255, 256):
+    for workers in (0, 256, 1_000):
         refused = refuses(WorkerCountError, ScheduledThreadPoolExecutor, workers)
-        assert str(refused) == "the number of workers is not 1 to 64"
+        assert str(refused) == "the number of workers is not 1 to 255"
 
 
 def names():

@@ -407,7 +407,7 @@ def remaining():
         far = pool.schedule(3600, print)
         assert 3590 < far.remaining() <= 3600
         going = held(pool)
-        late = pool.schedule(0.001, print)
+        late = pool.schedule(0.001, print, end="")
         wait_until(lambda: late.remaining() < 0)
         pulse = pool.schedule_at_fixed_rate(0.001, 3600, print, end="")
         wait_until(lambda: pulse.remaining() < 0)

@@ -260,6 +260,20 @@ def cancels():
     assert timers.task(rejected).phase is Phase.GONE
 
 
+def purges():
+    """A purge takes what is kept, and nothing that waits."""
+    timers = Timers(1)
+    task, other = timers.schedule(0, 5, 70), timers.schedule(0, 9, 71)
+    assert timers.cancel(task) and len(timers) == 2
+    assert (timers.next_due(), timers.head_due()) == (9, 5)
+    assert timers.purge() is None and len(timers) == 1
+    assert (timers.next_due(), timers.head_due()) == (9, 9)
+    assert task not in timers and other in timers
+    timers.shutdown_now(0)
+    timers.purge()
+    assert timers.head_due() is None
+
+
 def policies():
     """What each policy ends at a shutdown, and after it."""
     timers = Timers(1)
@@ -344,7 +358,7 @@ def traces(program):
             made.append(self)
 
     with mock.patch.dict(globals(), Timers=Noted):
-        for test in (numbers, kinds, errors, reasons, runs, cancels, policies, stops):
+        for test in (numbers, kinds, errors, reasons, runs, cancels, purges, policies, stops):
             test()
     for timers in made:
         answer = found(program, timers, "".join(timers.trace))

@@ -65,7 +65,7 @@ mod state;
 use crate::timers::{Counts, Policy, TimersError};
 pub use error::PoolError;
 pub use handle::Handle;
-use job::{Job, Once, Repeated};
+use job::{Job, Once, Repeated, drop_all, drop_quietly};
 #[doc(hidden)]
 pub use recorder::Recording;
 pub use result::JoinError;
@@ -86,7 +86,8 @@ use std::time::Duration;
 ///
 /// A submission is refused as [`TimersError::Rejected`] once the pool is shut, as [`TimersError::ZeroPeriod`] where a period, or a
 /// delay between runs, is zero, and as [`TimersError::TooLong`] where a span is above 2^62 nanoseconds, which is 146 years. Its job
-/// is dropped then. Where memory runs out, it is refused as [`TimersError::OutOfMemory`].
+/// is dropped then. Where memory runs out for the timers, it is refused as [`TimersError::OutOfMemory`]; where it does for the job, its
+/// handle or the table of jobs, the process ends, as with all of Rust's own collections.
 ///
 /// # Examples
 ///
@@ -107,14 +108,15 @@ use std::time::Duration;
 ///
 /// A pool that is dropped is shut down at once: what waits is cancelled, and the drop waits for the runs under way and for the
 /// threads. So what jobs have captured is not used after it. Who wants what waits to run first calls [`shutdown`](Self::shutdown)
-/// and [`await_termination`](Self::await_termination) before. Where a job drops the pool that runs it, the drop waits for nobody.
+/// and [`await_termination`](Self::await_termination) before. Where a job drops the pool that runs it, the drop waits for nobody. What a
+/// job has captured may panic as it is dropped: that goes no further then.
 pub struct ScheduledThreadPool {
     shared: Arc<Shared>,
     threads: Vec<JoinHandle<()>>,
 }
 
 impl ScheduledThreadPool {
-    /// A pool of 1 to 64 threads.
+    /// A pool of 1 to 255 threads.
     ///
     /// # Errors
     ///
@@ -359,8 +361,10 @@ impl ScheduledThreadPool {
     }
 
     fn set_policy(&self, policy: Policy, value: bool) {
-        self.shared
-            .with(|state, now| state.set_policy(now, policy, value));
+        drop_all(
+            self.shared
+                .with(|state, now| state.set_policy(now, policy, value)),
+        );
     }
 
     /// Shuts the pool down in order: submissions are rejected from now on, and the policies say which of the tasks that wait still
@@ -379,7 +383,7 @@ impl ScheduledThreadPool {
     /// # Ok::<(), Box<dyn std::error::Error>>(())
     /// ```
     pub fn shutdown(&self) {
-        self.shared.with(State::shut_down);
+        drop_all(self.shared.with(State::shut_down));
     }
 
     /// Shuts the pool down at once: submissions are rejected from now on, and all tasks that wait are cancelled. How many those
@@ -397,7 +401,10 @@ impl ScheduledThreadPool {
     /// # Ok::<(), Box<dyn std::error::Error>>(())
     /// ```
     pub fn shutdown_now(&self) -> usize {
-        self.shared.with(State::shut_down_now).len()
+        let jobs = self.shared.with(State::shut_down_now);
+        let ended = jobs.len();
+        drop_all(jobs);
+        ended
     }
 
     /// Waits until the pool is terminated, at most so long, and says whether it is. A job of the pool is answered false at once, since
@@ -525,7 +532,8 @@ impl fmt::Debug for ScheduledThreadPool {
 
 impl Drop for ScheduledThreadPool {
     fn drop(&mut self) {
-        self.shutdown_now();
+        let jobs = self.shared.with(State::shut_down_now);
+        jobs.into_iter().for_each(drop_quietly);
         if self.has_current_thread() {
             return;
         }

@@ -74,7 +74,7 @@ pub struct Timers {
 }
 
 impl Timers {
-    /// Timers with 1 to 64 workers, which calls name from 0, before anything happened.
+    /// Timers with 1 to 255 workers, which calls name from 0, before anything happened.
     ///
     /// # Errors
     ///
@@ -245,6 +245,24 @@ impl Timers {
         Ok(Effect::of(effect))
     }
 
+    /// Takes each task out of the queue that was cancelled while it waited, and is kept. No other task changes. It is made now, also
+    /// where the timers are shut.
+    ///
+    /// # Examples
+    ///
+    /// ```
+    /// let mut timers = sched::Timers::new(1)?;
+    /// let task = timers.schedule(0, 5, 70)?;
+    /// timers.cancel(task)?;
+    /// assert_eq!((timers.next_due(), timers.head_due()), (None, Some(5)));
+    /// timers.purge();
+    /// assert_eq!(timers.head_due(), None);
+    /// # Ok::<(), sched::TimersError>(())
+    /// ```
+    pub fn purge(&mut self) {
+        known(told(calls::timers_ref_purge(self.slot.get_mut())));
+    }
+
     /// A worker that has no run under way begins one of the first task that is due. `None`: nothing is due.
     ///
     /// # Errors
@@ -406,6 +424,17 @@ impl Timers {
         let status = self
             .slot
             .look(|slot| calls::timers_ref_next_due(slot, &mut due));
+        known(found(status)).then_some(due)
+    }
+
+    /// The moment at which the head of the queue is due, which waits or is kept: before it no poll takes a task out of the queue.
+    /// `None`: the queue is empty.
+    #[must_use]
+    pub fn head_due(&self) -> Option<u64> {
+        let mut due = 0;
+        let status = self
+            .slot
+            .look(|slot| calls::timers_ref_head_due(slot, &mut due));
         known(found(status)).then_some(due)
     }
 

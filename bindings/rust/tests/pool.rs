@@ -438,6 +438,55 @@ fn a_shutdown_outlives_what_panics_as_it_is_dropped() {
 }
 
 #[test]
+fn a_shutdown_drops_all_jobs_though_several_panic_as_they_are_dropped() {
+    let shutdowns: [fn(&ScheduledThreadPool); 3] = [
+        |pool| {
+            pool.shutdown_now();
+        },
+        |pool| {
+            pool.set_execute_after_shutdown(false);
+            pool.shutdown();
+        },
+        |pool| {
+            pool.shutdown();
+            pool.set_execute_after_shutdown(false);
+        },
+    ];
+    for shut_down in shutdowns {
+        let pool = pool(1);
+        let waits = [Brittle, Brittle, Brittle].map(|brittle| {
+            pool.schedule(HOUR, move || drop(brittle))
+                .expect("the pool is open")
+        });
+        let panics = std::panic::catch_unwind(std::panic::AssertUnwindSafe(|| shut_down(&pool)));
+        assert!(panics.is_err() && waits.iter().all(|waits| waits.is_cancelled()));
+        assert!(pool.await_termination(LONG));
+    }
+}
+
+#[test]
+fn the_drop_of_a_pool_waits_though_jobs_panic_as_they_are_dropped() {
+    let pool = pool(1);
+    let (began, begins) = mpsc::channel();
+    let ended = Arc::new(AtomicBool::new(false));
+    let ends = Arc::clone(&ended);
+    let run = pool.execute(move || {
+        began.send(()).expect("it is waited for");
+        thread::sleep(milliseconds(50));
+        ends.store(true, Ordering::SeqCst);
+    });
+    drop(run.expect("the pool is open"));
+    let waits = [Brittle, Brittle].map(|brittle| {
+        pool.schedule(HOUR, move || drop(brittle))
+            .expect("the pool is open")
+    });
+    begins.recv().expect("it runs");
+    drop(pool);
+    assert!(ended.load(Ordering::SeqCst));
+    assert!(waits.iter().all(|waits| waits.is_cancelled()));
+}
+
+#[test]
 fn the_policies_say_what_a_shutdown_lets_run() {
     for (periodic, once) in [(false, true), (true, false), (true, true), (false, false)] {
         let pool = pool(2);
@@ -798,15 +847,15 @@ fn threads_have_the_name_of_their_pool() {
 
 #[test]
 fn what_is_not_allowed_is_refused() {
-    for threads in [0, 65, 1 << 40] {
+    for threads in [0, 256, 1 << 40] {
         let refused = ScheduledThreadPool::new(threads).err();
         assert!(matches!(
             refused,
             Some(PoolError::Timers(TimersError::Workers))
         ));
     }
-    let pool = pool(64);
-    assert_eq!(pool.threads(), 64);
+    let pool = pool(255);
+    assert_eq!(pool.threads(), 255);
     let beyond = Duration::from_nanos(u64::MAX) + Duration::from_nanos(1);
     for span in [Duration::from_nanos((1 << 62) + 1), beyond, Duration::MAX] {
         let long = pool.schedule(span, || ()).expect_err("too long");

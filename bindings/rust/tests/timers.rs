@@ -277,10 +277,10 @@ fn many_runs_begin_and_end_in_one_call() {
 fn each_refusal_leaves_the_timers_as_they_were() {
     let refusal = |workers| Timers::new(workers).err();
     assert_eq!(
-        (refusal(0), refusal(65)),
+        (refusal(0), refusal(256)),
         (Some(TimersError::Workers), Some(TimersError::Workers))
     );
-    let mut timers = timers(64);
+    let mut timers = timers(255);
     timers.reserve(100).expect("memory");
     assert_eq!(timers.at_rate(0, 1, 0, 0), Err(TimersError::ZeroPeriod));
     assert_eq!(timers.with_delay(0, 1, 0, 0), Err(TimersError::ZeroPeriod));
@@ -292,9 +292,9 @@ fn each_refusal_leaves_the_timers_as_they_were() {
         timers.schedule(FARTHEST + 1, 0, 0),
         Err(TimersError::TooFar)
     );
-    assert_eq!(timers.poll(0, 64), Err(TimersError::NoWorker));
-    assert_eq!(timers.finish(0, 63, 0), Err(TimersError::NotRunning));
-    assert_eq!(timers.fail(0, 64, 0), Err(TimersError::NoWorker));
+    assert_eq!(timers.poll(0, 255), Err(TimersError::NoWorker));
+    assert_eq!(timers.finish(0, 254, 0), Err(TimersError::NotRunning));
+    assert_eq!(timers.fail(0, 255, 0), Err(TimersError::NoWorker));
     assert_eq!(timers.ask(FARTHEST + 1), Err(TimersError::TooFar));
     let state = timers.state();
     assert_eq!(
@@ -353,4 +353,15 @@ fn timers_cross_to_another_thread() {
     timers.execute(0, 5).expect("memory");
     let moved = std::thread::spawn(move || begun(&mut timers, 5, 0));
     assert_eq!(moved.join().expect("it ends"), Some(5));
+}
+
+#[test]
+fn a_purge_takes_what_is_kept_and_nothing_that_waits() {
+    let mut timers = timers(1);
+    let kept = timers.schedule(0, 5, 70).expect("memory");
+    timers.schedule(0, 9, 71).expect("memory");
+    timers.cancel(kept).expect("a number");
+    assert_eq!((timers.next_due(), timers.head_due()), (Some(9), Some(5)));
+    timers.purge();
+    assert_eq!((timers.next_due(), timers.head_due()), (Some(9), Some(9)));
 }

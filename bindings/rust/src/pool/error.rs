@@ -16,12 +16,12 @@ use std::io;
 ///
 /// let refused = ScheduledThreadPool::new(0).unwrap_err();
 /// assert!(matches!(refused, PoolError::Timers(TimersError::Workers)));
-/// assert_eq!(refused.to_string(), "the number of workers is not 1 to 64");
+/// assert_eq!(refused.to_string(), "the number of workers is not 1 to 255");
 /// ```
 #[derive(Debug)]
 #[non_exhaustive]
 pub enum PoolError {
-    /// The number of threads is not 1 to 64, or memory ran out.
+    /// The number of threads is not 1 to 255, or memory ran out.
     Timers(TimersError),
     /// The system refused a thread.
     Thread(io::Error),

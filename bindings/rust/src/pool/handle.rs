@@ -168,6 +168,10 @@ impl<T> Handle<T> {
     ///
     /// The task is not over by then: the handle comes back. Within, as [`join`](Self::join).
     ///
+    /// # Panics
+    ///
+    /// The handle gave the result before, as a future.
+    ///
     /// # Examples
     ///
     /// ```

@@ -4,7 +4,7 @@ use super::result::{JoinError, ResultCell};
 use std::any::Any;
 use std::convert::Infallible;
 use std::mem;
-use std::panic::{AssertUnwindSafe, catch_unwind};
+use std::panic::{AssertUnwindSafe, catch_unwind, resume_unwind};
 use std::sync::Arc;
 use std::task::Waker;
 
@@ -101,6 +101,21 @@ fn panicked(payload: Box<dyn Any + Send>) -> JoinError {
         .unwrap_or_else(|| "a payload that is no text".to_owned());
     drop_quietly(payload);
     JoinError::Panicked(text)
+}
+
+/// Drops jobs, all of them, also where some panic: the first panic goes on then, and the payloads of the others are forgotten.
+pub fn drop_all(jobs: Vec<Box<dyn Job>>) {
+    let mut first = None;
+    for job in jobs {
+        match catch_unwind(AssertUnwindSafe(|| drop(job))) {
+            Err(payload) if first.is_none() => first = Some(payload),
+            Err(payload) => mem::forget(payload),
+            Ok(()) => {}
+        }
+    }
+    if let Some(payload) = first {
+        resume_unwind(payload);
+    }
 }
 
 /// Drops what is the program's. Where that panics, the panic goes no further, and its payload, which might panic too, is forgotten.

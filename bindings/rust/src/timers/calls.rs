@@ -258,6 +258,8 @@ unsafe extern "C" {
         ended: &mut usize,
     ) -> u32;
     pub safe fn timers_ref_next_due(slot: &mut Slot, due: &mut u64) -> u32;
+    pub safe fn timers_ref_head_due(slot: &mut Slot, due: &mut u64) -> u32;
+    pub safe fn timers_ref_purge(slot: &mut Slot) -> u32;
     pub safe fn timers_ref_task_of(slot: &mut Slot, task: &TaskRef, state: &mut Task) -> u32;
     pub safe fn timers_ref_state_of(slot: &mut Slot, state: &mut State) -> u32;
     pub safe fn timers_ref_ask(slot: &mut Slot, now: u64, counts: &mut Counts) -> u32;

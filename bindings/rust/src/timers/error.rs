@@ -26,7 +26,7 @@ use std::fmt;
 pub enum TimersError {
     /// The allocator refused, or there are 2^30 slots.
     OutOfMemory,
-    /// The number of workers is not 1 to 64.
+    /// The number of workers is not 1 to 255.
     Workers,
     /// The timers are shut: the submission has the number of this ref, and no task.
     Rejected(TaskRef),
@@ -74,7 +74,7 @@ impl fmt::Display for TimersError {
     fn fmt(&self, f: &mut fmt::Formatter<'_>) -> fmt::Result {
         f.write_str(match self {
             TimersError::OutOfMemory => "out of memory",
-            TimersError::Workers => "the number of workers is not 1 to 64",
+            TimersError::Workers => "the number of workers is not 1 to 255",
             TimersError::Rejected(task) => {
                 return write!(
                     f,

@@ -6,9 +6,10 @@ use futures_core::Stream;
 use sched::{DelayQueue, QueueError};
 use std::fmt;
 use std::future::{Future, poll_fn};
-use std::pin::Pin;
+use std::pin::{Pin, pin};
 use std::task::{Context, Poll, Waker, ready};
 use std::time::Duration;
+use tokio::sync::Semaphore;
 use tokio::time::{Instant, Sleep, sleep_until};
 
 /// What a key that names no value is answered by those calls that need one.
@@ -20,6 +21,9 @@ const FIRST_ROOM: usize = 16;
 /// The most values that there may be.
 const MOST_ROOM: usize = u32::MAX as usize;
 
+/// The moment of the instant at which they were made: deadlines may lie 73 years before it, and 511 years after it.
+const START: u64 = 1 << 61;
+
 /// Values, each of which comes out once its deadline has passed.
 ///
 /// The values are taken from it as from a stream: by [`next`](Self::next), by [`poll_expired`](Self::poll_expired), or as a `Stream`.
@@ -27,8 +31,11 @@ const MOST_ROOM: usize = u32::MAX as usize;
 /// earliest comes first; there is no order among those of one deadline. Who polls is woken where a value is inserted, or reset, that
 /// is to come before all others, and where the last one is removed.
 ///
-/// A poll that finds nothing due has to be made in a runtime of tokio with its timer, which that starts. All other calls may be made
-/// anywhere. Each deadline is as exact as [`Instant`], and no value comes before.
+/// A poll that finds nothing due has to be made in a runtime of tokio with its timer, which that starts; in which one is all the same,
+/// from one poll to the next. All other calls may be made anywhere. Each deadline is as exact as [`Instant`], and no value comes before.
+///
+/// A value that is taken spends one of the task's budget, as what is taken from a channel of tokio does: where many are due at once,
+/// other tasks have their turn between.
 ///
 /// # Panics
 ///
@@ -57,7 +64,7 @@ const MOST_ROOM: usize = u32::MAX as usize;
 /// # }
 /// ```
 pub struct Delays<T> {
-    /// From when the queue's moments count, in nanoseconds.
+    /// The instant of the moment `START`. Moments are nanoseconds.
     start: Instant,
     values: Values<T>,
     /// For each value an entry of its place, with the moment of its deadline.
@@ -69,6 +76,8 @@ pub struct Delays<T> {
     armed: Option<u64>,
     /// Who polled last, and got no value.
     waker: Option<Waker>,
+    /// It is always free. An acquisition spends one of the task's budget, for which tokio has no call of its own that is as old.
+    budget: Semaphore,
 }
 
 /// No value is pinned.
@@ -99,6 +108,7 @@ impl<T> Delays<T> {
             sleep: None,
             armed: None,
             waker: None,
+            budget: Semaphore::new(1),
         };
         delays.reserve(capacity);
         delays
@@ -400,31 +410,36 @@ impl<T> Delays<T> {
     /// ```
     pub fn poll_expired(&mut self, context: &mut Context<'_>) -> Poll<Option<Expired<T>>> {
         loop {
-            let now = self.moment(Instant::now());
-            if let Some(due) = self.queue.poll(now) {
-                self.waker = None;
-                return Poll::Ready(self.taken(due.task));
-            }
-            self.remember(context.waker());
             let Some(first) = self.queue.peek() else {
+                self.remember(context.waker());
                 self.armed = None;
                 return Poll::Ready(None);
             };
+            let now = self.moment(Instant::now());
+            if first.due <= now {
+                ready!(self.poll_budget(context));
+                self.waker = None;
+                let due = self.queue.poll(now);
+                return Poll::Ready(due.and_then(|due| self.taken(due.task)));
+            }
             ready!(self.poll_sleep(first.due, context));
         }
     }
 
     // ---- parts
 
-    /// The moment of an instant, in nanoseconds.
+    /// The moment of an instant: the first or the last one where it is further away.
     fn moment(&self, instant: Instant) -> u64 {
-        let since = instant.saturating_duration_since(self.start).as_nanos();
-        u64::try_from(since).unwrap_or(u64::MAX)
+        let after = instant.saturating_duration_since(self.start);
+        let before = self.start.saturating_duration_since(instant);
+        START
+            .saturating_add(nanoseconds(after))
+            .saturating_sub(nanoseconds(before))
     }
 
-    /// The instant of a moment.
+    /// The instant of a moment that is not before `START`.
     fn instant(&self, moment: u64) -> Instant {
-        self.start + Duration::from_nanos(moment)
+        self.start + Duration::from_nanos(moment - START)
     }
 
     /// The deadline of a timeout from now on: the last moment that there is where it is longer.
@@ -452,16 +467,31 @@ impl<T> Delays<T> {
         Some(Expired::new(key, entry))
     }
 
-    /// Waits until a moment.
+    /// Spends one of the task's budget. Where none is left, the task is woken, and has its next turn after others.
+    fn poll_budget(&self, context: &mut Context<'_>) -> Poll<()> {
+        let acquired = pin!(self.budget.acquire());
+        acquired.poll(context).map(drop)
+    }
+
+    /// Waits until a moment. Where another task waited last, it may be one of another runtime, to whose timer the sleep belongs.
     fn poll_sleep(&mut self, due: u64, context: &mut Context<'_>) -> Poll<()> {
         let deadline = self.instant(due);
-        let sleep = self
-            .sleep
-            .get_or_insert_with(|| Box::pin(sleep_until(deadline)));
-        if self.armed != Some(due) {
-            sleep.as_mut().reset(deadline);
-            self.armed = Some(due);
-        }
+        let is_same = |last: &Waker| last.will_wake(context.waker());
+        let goes_on = self.waker.as_ref().is_some_and(is_same);
+        self.remember(context.waker());
+        let sleep = match &mut self.sleep {
+            Some(sleep) if goes_on && self.armed == Some(due) => sleep,
+            Some(sleep) if goes_on => {
+                sleep.as_mut().reset(deadline);
+                sleep
+            }
+            Some(sleep) => {
+                sleep.set(sleep_until(deadline));
+                sleep
+            }
+            None => self.sleep.insert(Box::pin(sleep_until(deadline))),
+        };
+        self.armed = Some(due);
         ready!(sleep.as_mut().poll(context));
         self.armed = None;
         Poll::Ready(())
@@ -509,6 +539,11 @@ impl<T> fmt::Debug for Delays<T> {
 /// A queue for so many values.
 fn queue_of(room: usize) -> Result<DelayQueue, QueueError> {
     DelayQueue::new(u32::try_from(room).map_err(|_| QueueError::OutOfMemory)?)
+}
+
+/// A span in nanoseconds, 2^64 - 1 where it is longer.
+fn nanoseconds(span: Duration) -> u64 {
+    u64::try_from(span.as_nanos()).unwrap_or(u64::MAX)
 }
 
 /// The answer of the queue, which lacks nothing but memory.

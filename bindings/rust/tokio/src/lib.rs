@@ -25,7 +25,7 @@
 //! - A key names its own value for ever: once that has left, the key names none, and no other value that came later.
 //! - Values come in the order of their deadlines, to the nanosecond. tokio sleeps whole milliseconds, so a value is seen up to a
 //!   millisecond after its deadline.
-//! - A timeout may be as long as it likes: one of more than 584 years counts as so long.
+//! - A timeout may be as long as it likes: one of more than 511 years counts as so long.
 //! - [`Delays::next`] awaits a value without an extension of `Stream`; [`Delays::try_reserve`] tells want of memory.
 //! - There is no `compact` and no `shrink_to_fit`: what room it has, it keeps.
 //! - It is `Send`, and not `Sync`.

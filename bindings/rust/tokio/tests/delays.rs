@@ -2,6 +2,7 @@
 
 use futures_core::Stream;
 use sched_tokio::{Delays, Expired, Key};
+use std::cell::Cell;
 use std::collections::BTreeMap;
 use std::fmt::Debug;
 use std::future::poll_fn;
@@ -12,6 +13,7 @@ use std::sync::Arc;
 use std::sync::atomic::{AtomicUsize, Ordering};
 use std::task::{Context, Poll, Wake, Waker};
 use std::time::Duration;
+use tokio::task::{LocalSet, yield_now};
 use tokio::time::{Instant, advance, sleep, timeout};
 
 const NANOSECOND: Duration = Duration::from_nanos(1);
@@ -356,6 +358,67 @@ async fn none_comes_before_its_deadline_by_the_machines_clock() {
     for wait in waits.collect::<Vec<_>>() {
         assert_eq!(wait.await.expect("no task panics"), 50);
     }
+}
+
+#[tokio::test(start_paused = true)]
+async fn deadlines_before_it_was_made_have_an_order_too() {
+    let now = Instant::now();
+    advance(MILLISECOND).await;
+    let mut delays = Delays::new();
+    for (value, before) in [(1, 1), (3, 3), (0, 0), (2, 2)] {
+        delays.insert_at(value, now - before * NANOSECOND);
+    }
+    delays.insert(-1, Duration::ZERO);
+    assert_eq!(all(&mut delays).await, [3, 2, 1, 0, -1]);
+    delays.insert(5, Duration::MAX);
+    let sooner = delays.insert(4, 100 * 365 * 24 * HOUR);
+    assert_eq!(delays.peek(), Some(sooner));
+}
+
+#[tokio::test]
+async fn other_tasks_have_their_turn_where_many_values_are_due() {
+    let mut delays = Delays::new();
+    for value in 0..50_000 {
+        delays.insert(value, Duration::ZERO);
+    }
+    let turns = Rc::new(Cell::new(0));
+    let local = LocalSet::new();
+    let counted = Rc::clone(&turns);
+    local.spawn_local(async move {
+        loop {
+            counted.set(counted.get() + 1);
+            yield_now().await;
+        }
+    });
+    let taken = local.run_until(async { all(&mut delays).await.len() });
+    assert_eq!(taken.await, 50_000);
+    assert!(turns.get() >= 100, "{turns:?} turns");
+}
+
+/// A runtime with a timer, which goes with it.
+fn in_a_runtime<A>(future: impl Future<Output = A>) -> A {
+    let mut runtime = tokio::runtime::Builder::new_current_thread();
+    runtime.enable_time().start_paused(true);
+    runtime.build().expect("a runtime").block_on(future)
+}
+
+#[test]
+fn it_goes_on_in_another_runtime() {
+    let mut delays = Delays::new();
+    delays.insert("late", HOUR);
+    delays.insert("soon", 10 * MILLISECOND);
+    in_a_runtime(async {
+        let waits = timeout(MILLISECOND, delays.next()).await;
+        assert!(waits.is_err(), "nothing is due");
+    });
+    assert_eq!(
+        in_a_runtime(async { delays.next().await.map(Expired::into_inner) }),
+        Some("soon")
+    );
+    assert_eq!(
+        in_a_runtime(async { delays.next().await.map(Expired::into_inner) }),
+        Some("late")
+    );
 }
 
 fn moves<T: Send + Unpin + Debug>() {}

@@ -4,13 +4,15 @@ import java.util.ArrayList;
 import java.util.Arrays;
 import java.util.Comparator;
 import java.util.List;
+import java.util.Objects;
 import java.util.concurrent.TimeUnit;
 import java.util.concurrent.locks.Condition;
 import java.util.concurrent.locks.ReentrantLock;
 
 /**
- * All that a pool's lock guards: the timers, the tasks, and the workers. No hook, job, thread factory, handler or future is called while
- * the lock is held.
+ * All that a pool's lock guards: the timers, the tasks, and the workers. No hook, job, thread factory or handler is called while the lock
+ * is held, nor what decorateTask made. What is called, and is not of this package: the consumers of a recording, and of a thread that a
+ * factory made getState, isInterrupted and interrupt.
  *
  * <p><b>Who waits, who wakes, and why no wake-up is lost.</b> A worker with nothing to do waits on {@link #available}. At most one of them,
  * the {@link #leader}, waits with the limit of the first due moment; the others wait until they are called, or until their time to keep
@@ -46,8 +48,9 @@ final class Desk {
     /** How many tasks wait; those of the table that do not are run. */
     private int waiting;
 
+    /** The workers by their numbers. One that is to go has none any more. */
     private final Worker[] workers = new Worker[Timers.MOST_WORKERS];
-    /** How many workers have a number, a thread that is about to be made among them; how many have a thread; the most there were. */
+    /** How many workers have a number, also without a thread yet; how many threads there are, also of workers that go; the most there were. */
     private int taken, threads, largest;
     private int active;
     private long completed;
@@ -66,7 +69,7 @@ final class Desk {
 
     Desk(TimersThreadPoolExecutor pool) {
         this.pool = pool;
-        timers = new Timers();
+        timers = new Timers(Timers.MOST_WORKERS);
         timers.rule(0, Timers.REMOVE, true);
     }
 
@@ -107,6 +110,8 @@ final class Desk {
                 return false;
             }
             table.reserve(timers);
+            kept.reserve(table.size() + kept.size() + 1L);
+            added = missingWorker(); // it may find no memory: so it comes before the task
             long moment = timers.callAt(asked - base), before = firstDue();
             task.place = table.add(task);
             task.waits();
@@ -114,7 +119,7 @@ final class Desk {
             waiting++;
             task.number = timers.submit(task.kind(), task.place, moment, delay, task.span());
             queued(moment + delay, before);
-            added = missingWorker();
+            if (task.isCancelled()) withdraw(task, true); // as decorateTask left it; Java's class keeps it, whatever the policy
         } finally {
             lock.unlock();
         }
@@ -169,11 +174,10 @@ final class Desk {
 
     /** Takes a task that waits out of the timers, and of the queue unless it is to be kept there. */
     private void withdraw(ScheduledTask<?> task, boolean keeps) {
-        if (keeps) kept.add(task); // it may find no memory: so it comes first
         timers.cancel(task.place, task.number);
         table.take(task.place);
         waiting--;
-        if (keeps) task.keeps();
+        if (keeps) kept.add(task);
         else task.goes();
         emptied();
     }
@@ -216,17 +220,20 @@ final class Desk {
 
     /** What stands in the queue, in no order. */
     List<ScheduledTask<?>> queue() {
-        List<ScheduledTask<?>> tasks;
         lock();
         try {
-            tasks = new ArrayList<>(waiting + kept.size());
-            table.forEach(task -> {
-                if (task.isWaiting()) tasks.add(task);
-            });
-            kept.forEach(tasks::add);
+            return contents();
         } finally {
             lock.unlock();
         }
+    }
+
+    private List<ScheduledTask<?>> contents() {
+        List<ScheduledTask<?>> tasks = new ArrayList<>(waiting + kept.size());
+        table.forEach(task -> {
+            if (task.isWaiting()) tasks.add(task);
+        });
+        kept.forEach(tasks::add);
         return tasks;
     }
 
@@ -245,6 +252,19 @@ final class Desk {
         }
         if (!isTaken || head == null) return head;
         return head.getDelay(TimeUnit.NANOSECONDS) <= 0 && remove(head) ? head : null;
+    }
+
+    /** What stands in the queue and is due, the first one first. */
+    List<ScheduledTask<?>> dueTasks() {
+        lock();
+        try {
+            List<ScheduledTask<?>> tasks = contents();
+            tasks.removeIf(task -> task.getDelay(TimeUnit.NANOSECONDS) > 0);
+            tasks.sort(null);
+            return tasks;
+        } finally {
+            lock.unlock();
+        }
     }
 
     boolean isQueued(ScheduledTask<?> task) {
@@ -277,7 +297,7 @@ final class Desk {
             for (;;) {
                 if (mustGo(timedOut)) {
                     if (ending != Timers.NONE) timers.cycle(clock(), worker.id, ending, false);
-                    taken--;
+                    giveUp(worker);
                     return false;
                 }
                 if (begin(worker, ending)) return true;
@@ -379,11 +399,20 @@ final class Desk {
 
     /** A run of a periodic task has ended well, within its worker or elsewhere: the task waits for its next run, or has ended. */
     void again(ScheduledTask<?> task) {
+        endRun(task, false);
+    }
+
+    /** A run of a periodic task was refused, since one that the program made goes on. Where it is one of the timers' it counts as made. */
+    void passedOver(ScheduledTask<?> task) {
+        endRun(task, true);
+    }
+
+    private void endRun(ScheduledTask<?> task, boolean isPassedOver) {
         Worker added = null;
         boolean swept = false;
         lock();
         try {
-            if (!task.isRunning()) return; // the run was not one of the timers'
+            if (isPassedOver ? !isOfCaller(task) : !task.isRunning()) return; // the run was not one of the timers'
             if (task.isCancelled()) tell(task);
             long before = firstDue();
             timers.cycle(clock(), task.worker(), Timers.VALUE, false);
@@ -408,8 +437,17 @@ final class Desk {
 
     /** The run of a task has failed. It only tells the timers so. */
     void failed(ScheduledTask<?> task) {
-        Worker worker = task.isRunning() ? workers[task.worker()] : null;
-        if (worker != null && worker.thread == Thread.currentThread()) worker.failed = true;
+        lock();
+        try {
+            if (isOfCaller(task)) workers[task.worker()].failed = true;
+        } finally {
+            lock.unlock();
+        }
+    }
+
+    /** Whether a run of a task is under way that the timers gave to the thread which calls. */
+    private boolean isOfCaller(ScheduledTask<?> task) {
+        return task.isRunning() && workers[task.worker()].thread == Thread.currentThread();
     }
 
     // ---- threads
@@ -421,14 +459,19 @@ final class Desk {
 
     /** A new worker, where there are fewer than so many, and the pool has use for one; else null. */
     private Worker newWorker(int most) {
-        if (taken >= Math.min(most, workers.length) || shut && (stopped || isQueueEmpty())) return null;
-        for (int id = 0; id < workers.length; id++) {
-            if (workers[id] != null) continue;
-            workers[id] = new Worker(pool, id);
-            taken++;
-            return workers[id];
-        }
-        return null;
+        if (taken >= Math.min(most, timers.workers()) || shut && (stopped || isQueueEmpty())) return null;
+        int id = 0;
+        while (workers[id] != null) id++;
+        workers[id] = new Worker(pool, id);
+        taken++;
+        return workers[id];
+    }
+
+    /** A worker gives its number up, which another one may have at once. Its thread, where it has one, only ends from then on. */
+    private void giveUp(Worker worker) {
+        if (workers[worker.id] != worker) return;
+        workers[worker.id] = null;
+        taken--;
     }
 
     /** Starts a thread where there are fewer than so many. The answer is whether it did. */
@@ -477,19 +520,14 @@ final class Desk {
         boolean last;
         lock();
         try {
-            taken--;
-            vacate(worker);
+            giveUp(worker);
+            if (worker.thread != null) threads--;
             last = ends();
             passOn();
         } finally {
             lock.unlock();
         }
         if (last) tidy();
-    }
-
-    private void vacate(Worker worker) {
-        workers[worker.id] = null;
-        if (worker.thread != null) threads--;
     }
 
     /** A worker's thread ends: as it was to go, or abruptly, by what a hook or a task threw. A new one may come in its place. */
@@ -499,7 +537,7 @@ final class Desk {
         lock();
         try {
             if (abruptly) endAbruptly(worker);
-            vacate(worker);
+            if (worker.thread != null) threads--;
             last = ends();
             if (!last && !stopped && (abruptly || taken < least())) next = newWorker(pool.maximumSize());
             passOn();
@@ -511,9 +549,9 @@ final class Desk {
     }
 
     private void endAbruptly(Worker worker) {
-        taken--;
         int ending = leaveTask(worker);
         if (ending != Timers.NONE) timers.cycle(clock(), worker.id, ending, false);
+        giveUp(worker);
     }
 
     private int least() {
@@ -769,7 +807,7 @@ final class Desk {
     boolean mayRecord() {
         lock();
         try {
-            return timers.numbers() == 0 && !shut && !recorded;
+            return timers.numbers() == 0 && !shut && !recorded && Arrays.stream(workers).skip(Timers.MOST_TRACED).allMatch(Objects::isNull);
         } finally {
             lock.unlock();
         }

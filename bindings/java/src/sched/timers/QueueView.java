@@ -95,7 +95,12 @@ final class QueueView extends AbstractQueue<Runnable> implements BlockingQueue<R
         Objects.requireNonNull(to);
         if (to == this) throw new IllegalArgumentException();
         int n = 0;
-        for (Runnable task; n < most && (task = poll()) != null; n++) to.add(task);
+        for (ScheduledTask<?> task : most <= 0 ? List.<ScheduledTask<?>>of() : desk.dueTasks()) {
+            if (n == most) break;
+            if (!desk.remove(task)) continue; // a worker took it meanwhile
+            to.add(task.outer);
+            n++;
+        }
         return n;
     }
 

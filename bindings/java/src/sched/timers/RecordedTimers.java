@@ -1,15 +1,19 @@
 package sched.timers;
 
+import java.util.function.Supplier;
+
 /** Timers whose calls go to a recorder, one by one, with the lines that each is answered. */
 final class RecordedTimers extends Timers {
     private final Recorder recorder;
+    private final Supplier<String> text = this::text;
 
     RecordedTimers(Recorder recorder) {
+        super(MOST_TRACED);
         this.recorder = recorder;
     }
 
     private void record() {
-        recorder.trace(this::text);
+        recorder.trace(text);
     }
 
     @Override

@@ -6,13 +6,13 @@ import java.io.UncheckedIOException;
 import java.nio.charset.StandardCharsets;
 import java.nio.file.Files;
 import java.nio.file.Path;
-import java.util.List;
 import java.util.function.Consumer;
 import java.util.function.Supplier;
 
 /**
  * Writes down what a pool's timers were asked, as a plan, and what they answered, as a trace, line by line, in the forms of the program
- * {@code sched}. The text so far is a plan, and a trace of it, after each call. Once a consumer throws, nothing more is recorded.
+ * {@code sched}. The text so far is a plan, and a trace of it, after each call. Whatever is thrown here, by a consumer or for want of
+ * memory, ends the recording, and goes no further: a pool's state is never half changed by it.
  */
 final class Recorder {
     /** How many calls a block of a plan may have. */
@@ -48,7 +48,12 @@ final class Recorder {
     }
 
     void submission(long number, int kind, long moment, long delay, long period) {
-        call(moment, OPS[kind], () -> "name = \"t" + number + "\"\n" + spans(kind, delay, period));
+        if (failure != null) return;
+        try {
+            call(moment, OPS[kind], "name = \"t" + number + "\"\n" + spans(kind, delay, period));
+        } catch (Throwable thrown) {
+            end(thrown);
+        }
     }
 
     private static String spans(int kind, long delay, long period) {
@@ -57,45 +62,53 @@ final class Recorder {
     }
 
     void rule(long moment, int which, boolean value) {
-        if (which == Timers.SHUTDOWN) call(moment, "shutdown", () -> "");
-        else if (which == Timers.SHUTDOWN_NOW) call(moment, "shutdown_now", () -> "");
-        else call(moment, "policy", () -> "which = \"" + POLICIES[which] + "\"\nvalue = " + value);
+        if (failure != null) return;
+        try {
+            if (which == Timers.SHUTDOWN) call(moment, "shutdown", "");
+            else if (which == Timers.SHUTDOWN_NOW) call(moment, "shutdown_now", "");
+            else call(moment, "policy", "which = \"" + POLICIES[which] + "\"\nvalue = " + value);
+        } catch (Throwable thrown) {
+            end(thrown);
+        }
     }
 
     void question(long moment) {
-        call(moment, "ask", () -> "");
+        if (failure != null) return;
+        try {
+            call(moment, "ask", "");
+        } catch (Throwable thrown) {
+            end(thrown);
+        }
     }
 
-    private void call(long moment, String op, Supplier<String> keys) {
-        tell(plan, () -> {
-            String front = calls == 0 ? "version = 2\n" : "";
-            if (calls++ % MOST_CALLS == 0) {
-                begin = moment;
-                front += "\n[[block]]\nat = " + begin + "\n";
-            }
-            return front + "\n[[block.call]]\nat = " + (moment - begin) + "\nop = \"" + op + "\"\n" + keys.get();
-        });
+    private void call(long moment, String op, String keys) {
+        String front = calls == 0 ? "version = 2\n" : "";
+        if (calls++ % MOST_CALLS == 0) {
+            begin = moment;
+            front += "\n[[block]]\nat = " + begin + "\n";
+        }
+        (front + "\n[[block.call]]\nat = " + (moment - begin) + "\nop = \"" + op + "\"\n" + keys).lines().forEach(plan);
     }
 
     /** The lines that a call was answered, which are asked for here. */
     void trace(Supplier<String> lines) {
-        tell(trace, lines);
-    }
-
-    /** Hands lines on. Whatever is thrown ends the recording, and goes no further: a pool's state is never half changed by it. */
-    private void tell(Consumer<String> to, Supplier<String> lines) {
         if (failure != null) return;
         try {
-            lines.get().lines().forEach(to);
+            lines.get().lines().forEach(trace);
         } catch (Throwable thrown) {
-            failure = thrown;
-            close();
+            end(thrown);
         }
+    }
+
+    private void end(Throwable thrown) {
+        failure = thrown;
+        close();
     }
 
     /** The pool has ended, or the recording: files are closed. */
     void close() {
-        for (Consumer<String> end : List.of(trace, plan)) if (end instanceof FileLines) ((FileLines) end).close();
+        if (trace instanceof FileLines) ((FileLines) trace).close();
+        if (plan instanceof FileLines) ((FileLines) plan).close();
     }
 
     /** Lines into a file, each of which is there once it was written. */

@@ -25,7 +25,7 @@ final class ScheduledTask<V> extends FutureTask<V> implements RunnableScheduledF
     RunnableScheduledFuture<V> outer = this;
 
     // All below is guarded by the lock of the desk.
-    /** The number of its submission, and its place in the table while it is neither kept nor gone. */
+    /** The number of its submission, and its place: among what is kept where it stands there, else in the table until it goes. */
     long number;
     int place;
     /** Its worker while it runs, perhaps with {@link #TOLD}; else one of the three above. */
@@ -76,6 +76,7 @@ final class ScheduledTask<V> extends FutureTask<V> implements RunnableScheduledF
         if (!desk.mayRun(this)) cancel(false);
         else if (!isPeriodic()) super.run();
         else if (super.runAndReset()) desk.again(this);
+        else if (!isDone()) desk.passedOver(this); // another run of it goes on
     }
 
     @Override

@@ -19,8 +19,10 @@ import java.nio.LongBuffer;
  * them, so that none runs then.
  */
 class Timers {
-    /** How many workers the library takes. */
-    static final int MOST_WORKERS = 64;
+    /** How many workers the library takes: the one place here that has the number. */
+    static final int MOST_WORKERS = 255;
+    /** How many workers a trace may have. */
+    static final int MOST_TRACED = 64;
     /** The longest delay, and the longest period, in nanoseconds. */
     static final long LONGEST = 1L << 62;
     /** The moment of what never comes. */
@@ -43,13 +45,15 @@ class Timers {
     private static final int NOTE = 4;
     private static final int MOST_NOTES = 64;
     private static final int WORDS = MOST_NOTES * NOTE;
-    private static final Cleaner CLEANER = Cleaner.create();
+    /** Made with the first timers, since it has a thread, for which there may be no memory. */
+    private static Cleaner cleaner;
 
     private final ByteBuffer bytes = ByteBuffer.allocateDirect(8 * (FIRST_NOTE + WORDS)).order(ByteOrder.nativeOrder());
     private final LongBuffer words = bytes.asLongBuffer();
     private final long room = address(bytes);
     private final Cleaner.Cleanable memory;
     private final long at;
+    private final int workers;
     private int notes;
     private long numbers;
     /** The greatest moment so far, and the least one of the next call: it comes after what a worker was answered. */
@@ -60,23 +64,36 @@ class Timers {
     /**
      * Makes timers without tasks.
      *
+     * @param workers  how many workers they have, whose numbers begin with 0
      * @throws OutOfMemoryError where there is no memory outside the heap
      */
-    Timers() {
-        long made = make(MOST_WORKERS);
+    Timers(int workers) {
+        long made = make(workers);
         if (made == 0) throw new OutOfMemoryError("no memory outside the heap for timers");
+        checked((int) Math.min(made, 0));
+        this.workers = workers;
         at = made;
         try {
-            memory = CLEANER.register(this, () -> release(made));
+            memory = cleaner().register(this, () -> release(made));
         } catch (Throwable failure) {
             release(made);
             throw failure;
         }
     }
 
+    private static synchronized Cleaner cleaner() {
+        if (cleaner == null) cleaner = Cleaner.create();
+        return cleaner;
+    }
+
     /** Frees the timers. Nothing may be asked after it. */
     void close() {
         memory.clean();
+    }
+
+    /** How many workers they have. */
+    final int workers() {
+        return workers;
     }
 
     /** How many submissions there were. */

@@ -18,9 +18,9 @@ import java.util.concurrent.TimeUnit;
 import java.util.function.Consumer;
 
 /**
- * A {@link ScheduledThreadPoolExecutor} over proved timers: when a task is due, which one runs next, what the policies and the shutdowns
- * end, and when all is over, is decided by the library behind {@code include/timers.h}, each call of which is proved to keep its contract.
- * Threads, wake-ups and futures are Java, and tested.
+ * A {@link ScheduledThreadPoolExecutor} over proved timers: when a task is due, which one runs next, and what the policies and the
+ * shutdowns end, is decided by the library behind {@code include/timers.h}, each call of which is proved to keep its contract. Threads,
+ * wake-ups and futures are Java, and tested, as is the end of the pool, to which the library has to agree.
  *
  * <p>It stands wherever Java's class is asked for, and does what the Java SE 17 documentation of that class, and of those that it extends,
  * says of each method: a program changes a constructor, or what a class extends. Thread factories, handlers of rejections,
@@ -45,24 +45,27 @@ import java.util.function.Consumer;
  * <li>What {@link #decorateTask} makes of a task runs, is cancelled, and stands in the queue in its place. When it runs is told by the
  *     task within, also where the other one has a {@code getDelay} or {@code compareTo} of its own; its {@code run} has to run the task
  *     within before it returns, if a periodic one is to run again; and a cancel of the task within removes it by the policy.
- * <li>A periodic task whose {@code run} the program calls does not come into the queue once more.
+ * <li>A periodic task whose {@code run} the program calls does not come into the queue once more. While such a run goes on, those that
+ *     are due are passed over.
  * </ol>
  *
  * <h2>Memory</h2>
  * A task has 110 to 170 bytes outside the heap, as the table is filled, which are used again once it is over, and freed with the pool: once that is terminated, or
  * unreachable. As with Java's class, a pool is reachable while it has threads. Where no memory is left for a task, its submission throws
- * an {@link OutOfMemoryError}, and nothing has changed.
+ * an {@link OutOfMemoryError}, and nothing has changed. Where a thread for it cannot be made or started, the submission throws what the
+ * thread factory or the start throws, and the task stands in the queue, as with Java's class.
  *
  * <h2>Where it runs</h2>
  * On Linux with glibc, on x86-64 of level 2 or above. Elsewhere the constructors throw an {@link UnsupportedOperationException} that says
  * what is missing, as {@link #missing} does without. The property {@code sched.timers.library} names the file of the library where it is
- * not to be taken from the jar.
+ * not to be taken from the jar: a JVM loads that file for one class loader alone.
  */
 public class TimersThreadPoolExecutor extends ScheduledThreadPoolExecutor {
     /** The greatest core size, and the most threads that a pool has. Ours: Java's class has no bound below 2<sup>29</sup>. */
     public static final int MOST_WORKERS = Timers.MOST_WORKERS;
 
     private final Desk desk;
+    private final QueueView queue;
     private volatile Recorder recorder;
 
     /**
@@ -116,6 +119,7 @@ public class TimersThreadPoolExecutor extends ScheduledThreadPoolExecutor {
         super(bounded(corePoolSize), threadFactory, handler);
         NativeLibrary.require();
         desk = new Desk(this);
+        queue = new QueueView(desk);
     }
 
     private static int bounded(int corePoolSize) {
@@ -418,18 +422,18 @@ public class TimersThreadPoolExecutor extends ScheduledThreadPoolExecutor {
 
     /**
      * A view of the queue, whose elements are as the documentation of Java's class has them. An iterator goes over what stood there when
-     * it was made, in no order.
+     * it was made, in no order. What finds the first task ({@code peek}, {@code poll}) looks at all, under the lock of the pool.
      *
-     * @return the view: what puts a task in, or waits for one, throws an {@link UnsupportedOperationException}
+     * @return the view, the same at each call: what puts a task in, or waits for one, throws an {@link UnsupportedOperationException}
      */
     @Override
     public BlockingQueue<Runnable> getQueue() {
-        return new QueueView(desk);
+        return queue;
     }
 
     @Override
     public boolean remove(Runnable task) {
-        return new QueueView(desk).remove(task);
+        return queue.remove(task);
     }
 
     @Override
@@ -442,7 +446,8 @@ public class TimersThreadPoolExecutor extends ScheduledThreadPoolExecutor {
 
     /**
      * Records from now on what the pool's timers are asked and what they answer: two texts that the program {@code sched} takes, by
-     * {@code sched check PLAN TRACE --workers} {@value #MOST_WORKERS} and {@code sched draw}. Ours.
+     * {@code sched check PLAN TRACE --workers 64} and {@code sched draw}. A pool that records starts no thread beyond its 64th, which is
+     * as many as a trace may have. Ours.
      *
      * <p>Consumers are called under the lock of the pool, one line after the other: they are to be quick, and may not call the pool. Where
      * one throws, the recording ends, the pool goes on, and {@link #recordingFailure} tells what was thrown. What {@code sched check} takes
@@ -453,7 +458,8 @@ public class TimersThreadPoolExecutor extends ScheduledThreadPoolExecutor {
      *
      * @param trace  is given each line of the trace, without its end
      * @param plan  is given each line of the plan, without its end
-     * @throws IllegalStateException where a task was submitted before, the pool is shut, or it records already: nothing has changed
+     * @throws IllegalStateException where a task was submitted before, the pool is shut, records already, or has more than 64 threads:
+     *     nothing has changed
      */
     public void recordTo(Consumer<String> trace, Consumer<String> plan) {
         recordTo(new Recorder(Objects.requireNonNull(trace), Objects.requireNonNull(plan)));
@@ -474,7 +480,7 @@ public class TimersThreadPoolExecutor extends ScheduledThreadPoolExecutor {
     }
 
     private static IllegalStateException tooLateToRecord() {
-        return new IllegalStateException("a recording begins before the first task, once, and while the pool is not shut");
+        return new IllegalStateException("a recording begins before the first task, once, and while the pool is not shut and has at most 64 threads");
     }
 
     private void recordTo(Recorder chosen) {

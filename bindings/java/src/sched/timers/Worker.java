@@ -5,12 +5,12 @@ final class Worker implements Runnable {
     final int id;
     private final TimersThreadPoolExecutor pool;
 
-    // All below is guarded by the lock of the desk, but `failed`.
+    // All below is guarded by the lock of the desk.
     /** Null until it is about to be started. */
     Thread thread;
     /** The task that it was given, until it comes for the next one. */
     ScheduledTask<?> task;
-    /** Whether the run failed; written and read by its own thread. */
+    /** Whether the run failed. */
     boolean failed;
 
     Worker(TimersThreadPoolExecutor pool, int id) {

@@ -8,6 +8,7 @@ import java.util.concurrent.RunnableScheduledFuture;
 import java.util.concurrent.ScheduledFuture;
 import java.util.concurrent.ScheduledThreadPoolExecutor;
 import java.util.concurrent.TimeUnit;
+import sched.timers.Limits;
 import sched.timers.TimersThreadPoolExecutor;
 
 /** What differs from Java's class, each as its page says, on both sides. */
@@ -29,6 +30,7 @@ final class Differences {
                 return thrown.toString();
             }
         });
+        Runner.holds("difference, the size is the library's", Limits::workers);
         differs("the size that is set", 1, pool -> {
             pool.setCorePoolSize(most);
             pool.setCorePoolSize(most + 1);

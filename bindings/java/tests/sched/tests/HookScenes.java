@@ -284,6 +284,34 @@ final class HookScenes {
             Scenes.eventually(() -> pool.getCompletedTaskCount() == 1);
             return task.isCancelled() + " " + pool.getQueue().size() + ended(pool);
         });
+        for (boolean removes : new boolean[] {true, false})
+            scene("a decoration that cancels, and a shutdown, " + removes, 1, () -> new Hooks() {
+                @Override
+                <V> RunnableScheduledFuture<V> decorate(RunnableScheduledFuture<V> task) {
+                    task.cancel(false);
+                    return task;
+                }
+            }, (pool, hooks) -> {
+                pool.setRemoveOnCancelPolicy(removes);
+                pool.schedule(Scenes.NOTHING, 1, HOURS);
+                return pool.getQueue().size() + " " + ended(pool) + pool.getQueue().size();
+            });
+        scene("a factory without memory", 1, () -> new Hooks() {
+            @Override
+            ThreadFactory factory() {
+                return job -> {
+                    if (seen.isEmpty()) throw new OutOfMemoryError("no thread");
+                    return new Thread(job);
+                };
+            }
+        }, (pool, hooks) -> {
+            try {
+                pool.submit(() -> hooks.seen.add("run"));
+            } catch (OutOfMemoryError refused) {
+                hooks.seen.add(refused.getMessage() + pool.getQueue().size() + pool.getPoolSize());
+            }
+            return pool.submit(() -> 5).get() + " " + ended(pool);
+        });
         scene("a decorated task that does not run", 1, () -> new Hooks() {
             @Override
             <V> RunnableScheduledFuture<V> decorate(RunnableScheduledFuture<V> task) {

@@ -6,14 +6,18 @@ import static java.util.concurrent.TimeUnit.SECONDS;
 
 import java.io.File;
 import java.io.IOException;
+import java.io.InputStream;
 import java.lang.ref.WeakReference;
 import java.net.URL;
 import java.net.URLClassLoader;
 import java.nio.file.Files;
 import java.nio.file.Path;
+import java.nio.file.StandardCopyOption;
+import java.security.Permission;
 import java.util.ArrayList;
 import java.util.List;
 import java.util.concurrent.Executors;
+import java.util.concurrent.ScheduledFuture;
 import java.util.concurrent.ScheduledThreadPoolExecutor;
 import java.util.concurrent.TimeUnit;
 import sched.timers.TimersThreadPoolExecutor;
@@ -26,8 +30,10 @@ final class Lives {
         Runner.holds("class loaders that go take the library along", Lives::loaders);
         for (String how : List.of("daemons", "exit", "within", "halt", "uncaught"))
             Runner.same("the JVM ends, " + how, 0, () -> ended("-ea", "-Xcheck:jni", "-cp", System.getProperty("java.class.path"), "sched.tests.Main", "exit", how));
-        Runner.same("want of heap, and then enough", 0, () -> ended("-ea", "-Xms64m", "-Xmx64m", "-XX:+UseSerialGC", "-cp", System.getProperty("java.class.path"), "sched.tests.Main", "exit", "heap"));
+        for (String how : List.of("heap 32m", "full 16m")) Runner.same("want of heap, " + how, 0, () -> wants(how.split(" ")));
         Runner.holds("a library that is not there", Lives::missing);
+        if (Runtime.version().feature() < 24) Runner.same("a library that an Error keeps from being loaded", 0, Lives::errors);
+        Runner.holds("a library that is named, and two class loaders", Lives::named);
     }
 
     /** The status of a JVM with some words; what it writes is told where that is not 0. */
@@ -48,6 +54,11 @@ final class Lives {
         }
     }
 
+    /** The status of a JVM that wants for heap, of which it has so much. */
+    private static int wants(String[] how) throws Exception {
+        return ended("-ea", "-Xms" + how[1], "-Xmx" + how[1], "-XX:+UseSerialGC", "-cp", System.getProperty("java.class.path"), "sched.tests.Main", "exit", how[0]);
+    }
+
     private static int mapped() throws IOException {
         int found = 0;
         for (String line : Files.readAllLines(Path.of("/proc/self/maps"))) if (line.contains("libtimers_jni") && line.contains("r-xp")) found++;
@@ -65,10 +76,15 @@ final class Lives {
         return mapped() == before;
     }
 
+    /** A class loader of its own for the jar. */
+    private static URLClassLoader loader() {
+        URL jar = TimersThreadPoolExecutor.class.getProtectionDomain().getCodeSource().getLocation();
+        return new URLClassLoader(new URL[] {jar}, ClassLoader.getPlatformClassLoader());
+    }
+
     /** A class loader of its own, by which a pool lived: one that is shut down, and one that is forgotten. */
     private static ClassLoader loadedAndDropped() throws Exception {
-        URL jar = TimersThreadPoolExecutor.class.getProtectionDomain().getCodeSource().getLocation();
-        URLClassLoader loader = new URLClassLoader(new URL[] {jar}, ClassLoader.getPlatformClassLoader());
+        URLClassLoader loader = loader();
         Class<?> pools = loader.loadClass(TimersThreadPoolExecutor.class.getName());
         if (pools == TimersThreadPoolExecutor.class) throw new AssertionError("one class loader");
         ScheduledThreadPoolExecutor pool = (ScheduledThreadPoolExecutor) pools.getConstructor(int.class).newInstance(2);
@@ -80,9 +96,26 @@ final class Lives {
         return loader;
     }
 
+    /** A program stops a load by a security manager, which from Java 12 on has to be allowed, and from Java 24 on is not there. */
+    private static int errors() throws Exception {
+        String allows = Runtime.version().feature() < 12 ? "-Dallowed=always" : "-Djava.security.manager=allow";
+        return ended(allows, "-cp", System.getProperty("java.class.path"), "sched.tests.Main", "exit", "error");
+    }
+
     /** A file that is no library, named by the property: the constructor says what is missing, in a JVM of its own. */
     private static boolean missing() throws Exception {
         return ended("-Dsched.timers.library=/dev/null", "-cp", System.getProperty("java.class.path"), "sched.tests.Main", "exit", "missing") == 0;
+    }
+
+    /** The library as a file of its own, which the property names. */
+    private static boolean named() throws Exception {
+        Path library = Files.createTempFile("named", ".so");
+        try (InputStream jar = TimersThreadPoolExecutor.class.getResourceAsStream("native/linux-x86_64/libtimers_jni.so")) {
+            Files.copy(jar, library, StandardCopyOption.REPLACE_EXISTING);
+            return ended("-Dsched.timers.library=" + library, "-cp", System.getProperty("java.class.path"), "sched.tests.Main", "exit", "named") == 0;
+        } finally {
+            Files.delete(library);
+        }
     }
 
     // ---- the other JVM
@@ -95,7 +128,10 @@ final class Lives {
             case "halt": busy(false); Runtime.getRuntime().halt(0); break;
             case "uncaught": uncaught(); break;
             case "heap": wantOfHeap(); break;
+            case "full": fullHeap(); break;
             case "missing": missingHere(); break;
+            case "error": errorsHere(); break;
+            case "named": namedHere(); break;
             default: throw new IllegalArgumentException(how);
         }
     }
@@ -132,6 +168,43 @@ final class Lives {
         }
     }
 
+    /** An Error comes out as often as it is there, and once it is gone the library is loaded. */
+    @SuppressWarnings({"deprecation", "removal"})
+    private static void errorsHere() {
+        int[] errors = {3};
+        System.setSecurityManager(new SecurityManager() {
+            @Override
+            public void checkPermission(Permission permission) {}
+
+            @Override
+            public void checkLink(String library) {
+                if (library.contains("timers_jni") && errors[0]-- > 0) throw new OutOfMemoryError("no memory for a library");
+            }
+        });
+        int thrown = 0;
+        for (int i = 0; i < 2; i++) {
+            try {
+                new TimersThreadPoolExecutor(1);
+            } catch (OutOfMemoryError error) {
+                thrown++;
+            }
+        }
+        try {
+            TimersThreadPoolExecutor.missing();
+        } catch (OutOfMemoryError error) {
+            thrown++;
+        }
+        new TimersThreadPoolExecutor(1).shutdown();
+        System.exit(thrown == 3 && TimersThreadPoolExecutor.missing() == null ? 0 : 1);
+    }
+
+    /** A file that the property names is of one class loader: another one says so. */
+    private static void namedHere() throws Exception {
+        new TimersThreadPoolExecutor(1).shutdown();
+        Object missing = loader().loadClass(TimersThreadPoolExecutor.class.getName()).getMethod("missing").invoke(null);
+        System.exit(String.valueOf(missing).contains("already loaded in another classloader") ? 0 : 1);
+    }
+
     /** What is let go of once the heap is full, so that the test itself has some: a field, since a local one is collected early. */
     private static Object[] ballast;
 
@@ -148,6 +221,68 @@ final class Lives {
         if (pool.submit(() -> 5).get(30, SECONDS) != 5) System.exit(4);
         pool.shutdown();
         System.exit(pool.awaitTermination(30, SECONDS) ? 0 : 5);
+    }
+
+    /** A heap without room for anything: a cancel throws nothing, and a submission that throws has changed nothing. */
+    private static void fullHeap() {
+        TimersThreadPoolExecutor pool = new TimersThreadPoolExecutor(TimersThreadPoolExecutor.MOST_WORKERS, job -> null);
+        ScheduledFuture<?>[] tasks = new ScheduledFuture<?>[2_000];
+        for (int i = 0; i < tasks.length; i++) tasks[i] = pool.schedule(Scenes.NOTHING, 1, HOURS);
+        int cancelled = 0;
+        for (; cancelled < 20; cancelled++) tasks[cancelled].cancel(false); // all classes are there then
+        fill();
+        try {
+            for (; cancelled < tasks.length; cancelled++) tasks[cancelled].cancel(false);
+        } catch (OutOfMemoryError full) {
+            ballast = null;
+            System.out.println("cancel " + cancelled + " threw");
+            full.printStackTrace(System.out);
+            System.exit(6);
+        }
+        // With ever more room a submission has enough at some point, and asked for each part of it before.
+        for (int room = 0; ; room++) {
+            ballast = null;
+            Link spare = null;
+            for (int i = 0; i < room; i++) spare = new Link(spare);
+            fill();
+            spare = null;
+            try {
+                pool.schedule(Scenes.NOTHING, 1, HOURS);
+                break;
+            } catch (OutOfMemoryError full) {
+                if (pool.getQueue().size() == tasks.length) continue;
+                ballast = null;
+                System.out.println("a submission threw with room for " + room);
+                System.exit(7);
+            }
+        }
+        ballast = null;
+        pool.shutdownNow();
+        System.exit(pool.isTerminated() ? 0 : 8);
+    }
+
+    /** One of the smallest objects that lead to another. */
+    private static final class Link {
+        final Link next;
+
+        Link(Link next) {
+            this.next = next;
+        }
+    }
+
+    /** Takes all of the heap, in ever smaller pieces, each of which leads to the one before. */
+    private static void fill() {
+        for (int size = 1 << 18; size > 0; size /= 8) {
+            try {
+                for (;;) {
+                    Object[] piece = new Object[size];
+                    piece[0] = ballast;
+                    ballast = piece;
+                }
+            } catch (OutOfMemoryError full) {
+                // The next pieces are smaller.
+            }
+        }
     }
 
     private static boolean fills(TimersThreadPoolExecutor pool) {

@@ -24,6 +24,7 @@ import java.util.concurrent.ThreadPoolExecutor;
 import java.util.concurrent.TimeUnit;
 import java.util.concurrent.TimeoutException;
 import java.util.concurrent.atomic.AtomicInteger;
+import sched.timers.Leaving;
 import sched.timers.TimersThreadPoolExecutor;
 
 /** One program over Java's class and over ours: what it tells has to be the same, but for what is listed as different. */
@@ -181,6 +182,38 @@ final class Scenes {
             eventually(() -> pool.getCompletedTaskCount() == 1);
             return said + runs + pool.getQueue().size();
         });
+        scene("a run by hand goes on as a run of its periodic task is due", 1, pool -> {
+            CountDownLatch in = new CountDownLatch(1), out = new CountDownLatch(1), four = new CountDownLatch(4);
+            ScheduledFuture<?> rate = pool.scheduleAtFixedRate(() -> {
+                in.countDown();
+                await(out);
+                four.countDown();
+            }, 200, 1, MILLISECONDS);
+            Thread byHand = new Thread((Runnable) rate);
+            byHand.start();
+            await(in);
+            eventually(() -> pool.getCompletedTaskCount() > 0);
+            out.countDown();
+            await(four);
+            byHand.join();
+            return rate.isDone() + " " + rate.cancel(false);
+        });
+        scene("a run by hand fails as a run of its periodic task is due", 1, pool -> {
+            CountDownLatch in = new CountDownLatch(1), out = new CountDownLatch(1);
+            ScheduledFuture<?> rate = pool.scheduleWithFixedDelay(() -> {
+                in.countDown();
+                await(out);
+                throw new IllegalStateException("by hand");
+            }, 200, 1, MILLISECONDS);
+            Thread byHand = new Thread((Runnable) rate);
+            byHand.start();
+            await(in);
+            eventually(() -> pool.getCompletedTaskCount() > 0);
+            out.countDown();
+            byHand.join();
+            eventually(() -> pool.getQueue().size() == 0);
+            return rate.isDone() + " " + rate.isCancelled();
+        });
         scene("nulls", 1, pool -> {
             StringBuilder said = new StringBuilder();
             List<Callable<?>> calls = List.of(() -> pool.schedule((Runnable) null, 0, SECONDS), () -> pool.schedule((Callable<?>) null, 0, SECONDS),
@@ -318,6 +351,26 @@ final class Scenes {
             pool.getQueue().clear();
             out.countDown();
             return said + pool.getQueue().size();
+        });
+        scene("the queue is one object", 1, pool -> pool.getQueue() == pool.getQueue());
+        scene("a queue of many that is drained", 1, pool -> {
+            CountDownLatch in = new CountDownLatch(1), out = new CountDownLatch(1);
+            pool.execute(() -> {
+                in.countDown();
+                await(out);
+            });
+            await(in);
+            int many = 100_000;
+            List<Object> wanted = new ArrayList<>(many);
+            for (int i = 0; i < many; i++) wanted.add(pool.submit(NOTHING));
+            ((Future<?>) wanted.get(many / 2)).cancel(false);
+            pool.schedule(NOTHING, 1, HOURS);
+            List<Object> got = new ArrayList<>(many);
+            long begin = System.nanoTime();
+            String said = pool.getQueue().drainTo(got) + " " + pool.getQueue().drainTo(got, -1) + got.equals(wanted) + pool.getQueue().size();
+            boolean isQuick = System.nanoTime() - begin < SECONDS.toNanos(5);
+            out.countDown();
+            return said + isQuick;
         });
         scene("a removal ends a pool that is shut", 1, pool -> {
             ScheduledFuture<?> task = pool.schedule(NOTHING, 1, HOURS);
@@ -682,5 +735,6 @@ final class Scenes {
             String ours = told(cast.scene, pool(true, cast.core)), theirs = told(cast.scene, pool(false, cast.core));
             Runner.told("scene, " + name, ours.equals(theirs), "ours " + ours + ", Java's " + theirs);
         });
+        Runner.same("workers that are to go leave their numbers", TimersThreadPoolExecutor.MOST_WORKERS, Leaving::startedMeanwhile);
     }
 }

@@ -16,6 +16,8 @@ import sched.timers.TimersThreadPoolExecutor;
 /** What a pool records, which the program `sched` checks where the property sched.program names it. */
 final class Traces {
     private static final String PROGRAM = System.getProperty("sched.program");
+    /** How many workers a trace may have. */
+    private static final int MOST_TRACED = 64;
 
     private Traces() {}
 
@@ -32,6 +34,7 @@ final class Traces {
         Runner.holds("records, a consumer that throws", Traces::throwing);
         Runner.holds("records, a consumer that calls the pool", Traces::calling);
         Runner.holds("records, too late", Traces::late);
+        Runner.holds("records, as many threads as a trace may have", Traces::crowded);
         Files.delete(trace);
         Files.delete(plan);
         Files.delete(folder);
@@ -49,7 +52,7 @@ final class Traces {
     private static void checked(String name, Path trace, Path plan) {
         if (PROGRAM == null) return;
         Runner.same("sched check, " + name, "conforms\n", () -> {
-            Process process = new ProcessBuilder(PROGRAM, "check", plan.toString(), trace.toString(), "--workers", "" + TimersThreadPoolExecutor.MOST_WORKERS).redirectErrorStream(true).start();
+            Process process = new ProcessBuilder(PROGRAM, "check", plan.toString(), trace.toString(), "--workers", "" + MOST_TRACED).redirectErrorStream(true).start();
             return new String(process.getInputStream().readAllBytes());
         });
     }
@@ -126,6 +129,26 @@ final class Traces {
         boolean runs = pool.submit(() -> 4).get() == 4;
         pool.shutdown();
         return runs && pool.awaitTermination(30, SECONDS) && pool.recordingFailure().getMessage().equals("a recorder called its pool");
+    }
+
+    private static boolean crowded() throws Exception {
+        int most = TimersThreadPoolExecutor.MOST_WORKERS;
+        TimersThreadPoolExecutor pool = new TimersThreadPoolExecutor(most), full = new TimersThreadPoolExecutor(most);
+        pool.recordTo(line -> {}, line -> {});
+        boolean isBounded = pool.prestartAllCoreThreads() == MOST_TRACED && pool.getPoolSize() == MOST_TRACED && pool.submit(() -> 4).get() == 4;
+        boolean isFull = full.prestartAllCoreThreads() == most;
+        boolean records = records(full) == most <= MOST_TRACED;
+        for (TimersThreadPoolExecutor each : List.of(pool, full)) each.shutdown();
+        return isBounded && isFull && records && pool.awaitTermination(30, SECONDS) && full.awaitTermination(30, SECONDS);
+    }
+
+    private static boolean records(TimersThreadPoolExecutor pool) {
+        try {
+            pool.recordTo(line -> {}, line -> {});
+            return true;
+        } catch (IllegalStateException refused) {
+            return false;
+        }
     }
 
     private static boolean late() throws Exception {
