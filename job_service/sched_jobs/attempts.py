@@ -5,7 +5,7 @@ from dataclasses import dataclass
 from functools import partial
 from typing import Protocol
 
-from sched_jobs.basics import SECOND
+from sched_jobs.basics import SECOND, File
 from sched_jobs.jobs import Job
 from sched_jobs.processes import NOT_STARTED, Group, Lost, NotStarted, Scarce
 
@@ -40,8 +40,8 @@ class House(Protocol):
     def now(self) -> int: ...
     def name(self, run: Run) -> str: ...
     def job(self, run: Run) -> Job: ...
-    def watch(self, file: object, call: Callable[[], None]) -> None: ...
-    def unwatch(self, file: object) -> None: ...
+    def watch(self, file: File, call: Callable[[], None]) -> None: ...
+    def unwatch(self, file: File | None) -> None: ...
     def process(self, run: Run, job: Job, header: bytes) -> Group: ...
     def finish(self, run: Run) -> None: ...
     def tell(self, now: int, text: str) -> None: ...
@@ -91,6 +91,7 @@ class Attempts:
 
     def watch_end(self, run: Run) -> None:
         """From now on the end of the run's process is seen."""
+        assert run.process is not None
         try:
             self.house.watch(run.process.descriptor(), partial(self.reap, run))
         except Scarce as lack:
@@ -138,6 +139,7 @@ class Attempts:
 
     def reap(self, run: Run) -> None:
         """A job has ended."""
+        assert run.process is not None
         self.house.unwatch(run.process.pidfd)
         try:
             code, run.process = run.process.end(), None

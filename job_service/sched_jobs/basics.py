@@ -2,11 +2,19 @@
 
 import contextlib
 import sys
-from typing import Any
+from typing import Any, Protocol
 
 # An object as JSON and TOML have it.
 Json = dict[str, Any]
 SECOND = 1_000_000_000
+
+
+class HasDescriptor(Protocol):
+    def fileno(self) -> int: ...
+
+
+# What can be waited for.
+File = int | HasDescriptor
 
 
 class Fault(Exception):

@@ -5,16 +5,22 @@ import importlib
 import shlex
 from collections.abc import Callable
 from pathlib import Path
+from typing import TYPE_CHECKING
 
-from sched_jobs.basics import Fault, tell
+from sched_jobs.basics import SECOND, Fault, tell
 from sched_jobs.client import usual_state
 from sched_jobs.plan_run import arguments as of_a_plan
 from sched_jobs.programs import worker_count
 from sched_jobs.spans import read_span
 
+if TYPE_CHECKING:
+    from sched_jobs.cluster.etcd import Server
+
 ABOUT = "Runs jobs at their times, and goes on where it stood after whatever ended it."
 FAULT = 1
 USUAL_WORKERS = 4
+USUAL_LEASE = 3 * SECOND
+MOST_LOGS = 1_000
 Answer = Callable[[argparse.Namespace], int]
 
 
@@ -28,6 +34,20 @@ def span(text: str) -> int:
         return read_span(text)
     except ValueError as error:
         raise argparse.ArgumentTypeError(str(error)) from error
+
+
+def servers(text: str) -> "list[Server]":
+    from sched_jobs.cluster.etcd import servers_of
+    try:
+        return servers_of(text)
+    except ValueError as error:
+        raise argparse.ArgumentTypeError(str(error)) from error
+
+
+def count(text: str) -> int:
+    if not (text.isascii() and text.isdigit() and 1 <= int(text) <= MOST_LOGS):
+        raise argparse.ArgumentTypeError(f"{text!r} is not 1 to {MOST_LOGS}")
+    return int(text)
 
 
 def shell_words(text: str) -> list[str]:
@@ -60,6 +80,12 @@ def add_serving(commands: argparse._SubParsersAction) -> None:
                         help="a command that is run for each run that failed, with SCHED_JOB, SCHED_CODE, .. in its environment")
     found.add_argument("--metrics", metavar="FILE", type=Path,
                        help="the file of metrics, metrics.prom in the folder where left out")
+    many = found.add_argument_group("on many machines")
+    many.add_argument("--cluster", metavar="SERVERS", type=servers, help="the servers of etcd: http://A:2379,http://B:2379,http://C:2379")
+    many.add_argument("--name", metavar="NODE", help="the name of this node, which no other one has")
+    many.add_argument("--logs", metavar="N", type=count, help="how many logs the cluster has, as its first node says; 1 where left out")
+    many.add_argument("--lease", metavar="SPAN", type=span, default=USUAL_LEASE,
+                      help="how long a node may be silent until it is gone; 3s where left out")
 
 
 def add_adding(commands: argparse._SubParsersAction) -> None:

@@ -14,7 +14,7 @@ from datetime import datetime, timedelta, tzinfo
 from sched_jobs.local_times import local_of, moments_of
 
 try:
-    from croniter import CroniterBadCronError, CroniterBadDateError, croniter
+    from croniter import CroniterBadCronError, CroniterBadDateError, croniter  # type: ignore[import]
 except ImportError:
     croniter = None
 
@@ -78,7 +78,9 @@ class Cron:
 
     def offset(self, moment: int) -> int:
         """By how many seconds the clock shows more than that of Greenwich."""
-        return int(datetime.fromtimestamp(moment, self.zone).astimezone(self.zone).utcoffset().total_seconds())
+        offset = datetime.fromtimestamp(moment, self.zone).astimezone(self.zone).utcoffset()
+        assert offset is not None
+        return int(offset.total_seconds())
 
     def next_meant(self, behind: int) -> int:
         """The first moment behind one that a local time means, each of which means one."""

@@ -6,6 +6,7 @@ import tomllib
 from collections.abc import Callable, Iterable
 from dataclasses import dataclass, replace
 from pathlib import Path
+from typing import Any
 
 from sched_jobs.basics import SECOND, Fault
 from sched_jobs.lines import line_of
@@ -52,7 +53,7 @@ def command_of(value: object) -> list[bytes]:
 
 def span_of(value: object) -> int:
     """A number of seconds, whole or not, in nanoseconds."""
-    if type(value) not in (int, float) or not 0 <= value <= LONGEST_SPAN_S:
+    if isinstance(value, bool) or not isinstance(value, int | float) or not 0 <= value <= LONGEST_SPAN_S:
         raise ValueError
     return math.ceil(value * SECOND)
 
@@ -158,7 +159,7 @@ def read_source(path: str) -> Source:
         raise Fault(f"jobs: {path}:{line}: Toml: byte {content[error.start]:#04x} is no UTF-8") from error
 
 
-def fields_of(name: str, table: object, source: Source, keys: dict[str, Key]) -> dict[str, object]:
+def fields_of(name: str, table: object, source: Source, keys: dict[str, Key]) -> dict[str, Any]:
     """The fields that a table of JOBS fills."""
     if not isinstance(table, dict):
         raise source.fault(f"WrongType {name!r}: a table is wanted", name)
@@ -179,7 +180,7 @@ def job_of(name: str, table: object, source: Source) -> Job:
     return Job(**fields_of(name, table, source, KEYS))
 
 
-def tables_of(source: Source) -> dict[str, object]:
+def tables_of(source: Source) -> dict[str, Any]:
     """The tables of the file, by their names."""
     try:
         return tomllib.loads(source.text)

@@ -67,7 +67,9 @@ def read_when(text: str, zone: tzinfo | None = None) -> When:
         raise ValueError(f"{text!r} is not {FORMS}")
     year, month, day, *clock = (None if word is None else int(word) for word in words.groups())
     try:
-        when = When(text, None if year is None else date(year, month, day), DayTime(*(part or 0 for part in clock)), zone)
+        hour, minute, second = (part or 0 for part in clock)
+        written = None if year is None else date(year, month or 0, day or 0)
+        when = When(text, written, DayTime(hour, minute, second), zone)
         moments_of(datetime.combine(when.day or date.today(), when.time), zone)
     except (ValueError, OverflowError, OSError) as error:
         raise ValueError(f"{text!r} is no time of a clock") from error

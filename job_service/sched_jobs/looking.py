@@ -86,7 +86,18 @@ def status(asked: argparse.Namespace) -> int:
     print(f"jobs: {states}\nrunning: {told['running']} of {told['workers']}\ndue: {told['due']}, late {told['late']}\n"
           f"runs: {told['runs']}, failed {told['failed']}, missed {told['missed']}\nnext: {moment(told['next'])}\n"
           f"since: {moment(told['since'])}, {told['lines']} lines")
+    if "node" in told:
+        print(of_the_cluster(told))
     return 0
+
+
+def of_the_cluster(told: Json) -> str:
+    """What a node says of the others."""
+    nodes = ", ".join(f"{name} ({workers})" for name, workers in sorted(told["nodes"].items())) or "none"
+    logs = [f"log {number}: {log['leader'] or 'nobody'} leads, group {log['group']}" + ("" if log["is_current"] else ", behind")
+            for number, log in enumerate(told["logs"])]
+    etcd = [f"etcd: no server answers: {told['etcd']}"] if told["etcd"] is not None else []
+    return "\n".join([f"node: {told['node']} of {nodes}", *logs, *etcd])
 
 
 def log(asked: argparse.Namespace) -> int:
@@ -96,7 +107,7 @@ def log(asked: argparse.Namespace) -> int:
         if asked.json:
             print(json.dumps(bar.as_json()))
             continue
-        print(f"{moment(bar.end)} {bar.name} task {bar.task} run {bar.run}: {bar.outcome} in {(bar.end - bar.start) / 1e6:.1f} ms, "
+        print(f"{moment(bar.end)} {bar.name} task {bar.task} run {bar.run}: {bar.outcome} in {((bar.end or bar.start) - bar.start) / 1e6:.1f} ms, "
               f"{(bar.start - bar.due) / 1e6:.1f} ms late")
     return 0
 

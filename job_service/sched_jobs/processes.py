@@ -67,7 +67,7 @@ def started(job: Job, header: bytes) -> subprocess.Popen:
     try:
         return spawned(job, output, header)
     except subprocess.SubprocessError as error:
-        raise NotStarted(f"output {os.fsdecode(job.output)!r}: not written") from error
+        raise NotStarted(f"output {os.fsdecode(job.output or b'')!r}: not written") from error
     except OSError as error:
         if job.directory is not None and error.filename == job.directory:
             raise refusal(error, f"directory {os.fsdecode(job.directory)!r}: ") from error
@@ -124,6 +124,10 @@ class Group:
     def end(self) -> int:
         """Takes the end of a process that has ended, and answers its code."""
         raise NotImplementedError
+
+    def kill(self) -> None:
+        """Ends it at once, with what it has started."""
+        self.signal_all(signal.SIGKILL)
 
     def forget_descriptor(self) -> None:
         if self.pidfd is not None:

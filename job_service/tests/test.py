@@ -4,7 +4,7 @@
     job_service/tests/test.py [--short] [--only WORD] [PROGRAM]
 
 PROGRAM is `sched`, as the service finds it where it is left out. Where it has no `live --journal`, `live_stand_in.py` keeps a journal
-for it. --short leaves out what takes minutes: it kills the service at each step once and at random a few times. WORD is a part of a
+for it. Where etcd is there, nodes of a cluster are tried too. --short leaves out what takes minutes: it kills the service at each step once and at random a few times. WORD is a part of a
 test's name. The last line is 'N passed, M failed', and the status is 0 exactly when M is 0.
 """
 
@@ -17,7 +17,7 @@ from pathlib import Path
 
 sys.dont_write_bytecode = True
 HERE = Path(__file__).resolve().parent
-sys.path[1:1] = [str(HERE / "service"), str(HERE.parent)]
+sys.path[1:1] = [str(HERE / "service"), str(HERE / "cluster"), str(HERE.parent)]
 import bad_words
 import books
 import calendar_times
@@ -27,7 +27,9 @@ import commands
 import documents
 import endings
 import kills
+import nodes
 import pictures
+import pieces
 import sockets_of
 import stores
 from sched_jobs.basics import Fault
@@ -36,7 +38,7 @@ from sched_jobs.programs import program_named
 Checks = Iterator[tuple[str, bool]]
 QUICK: list[Callable[[str], Checks]] = [
     *calendar_times.TESTS, *bad_words.TESTS, *books.TESTS, *catching_up.TESTS, *stores.TESTS, *commands.TESTS, *endings.TESTS,
-    *clock_changes.TESTS, *sockets_of.TESTS, *pictures.TESTS, *documents.TESTS,
+    *clock_changes.TESTS, *sockets_of.TESTS, *pictures.TESTS, *documents.TESTS, *pieces.TESTS, *nodes.TESTS,
 ]
 SHORT = [kills.at_each_step_once, kills.at_random_a_little, kills.power_cuts_a_few]
 LONG = [kills.at_each_step, kills.at_random, kills.power_cuts]

@@ -2,6 +2,7 @@
 
 import json
 import time
+from collections.abc import Callable
 from html import escape
 from pathlib import Path
 
@@ -72,7 +73,7 @@ def picture(state: Path, span: int | None) -> str:
     return "\n".join([*parts, "</svg>\n"])
 
 
-def ticks(history: History, span: int, place: object, height: int) -> list[str]:
+def ticks(history: History, span: int, place: Callable[[int], float], height: int) -> list[str]:
     step, parts = step_of(span) * SECOND, []
     moment = -(-history.begin // step) * step
     while moment <= history.end:

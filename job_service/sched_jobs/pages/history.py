@@ -43,19 +43,26 @@ def bar_of_running(run: Running) -> Bar:
     return Bar(run.name, run.task, run.number, run.worker, run.due, run.start, None, None, False, "runs", 1)
 
 
+def folders_of(state: Path) -> list[Path]:
+    """The folders of a service's segments: one, or on many machines one for each log."""
+    logs = state / "logs"
+    return sorted(logs.iterdir()) if logs.is_dir() else [state]
+
+
 def books_of(state: Path) -> Iterator[tuple[Book, list[Ended]]]:
-    """The book at the end of each segment, and what has ended in it."""
+    """The book at the end of each segment of a folder, and what has ended in it."""
     try:
         segments = segments_of(state)
     except OSError as error:
         raise Fault(f"{state}: not read: {error.strerror}") from error
     for at in segments:
         try:
-            kept, ended = read_segment(state, at), []
+            kept = read_segment(state, at)
         except Fault:
             if file_of(state, "jobs", at).exists():
                 raise
             continue  # it was taken away meanwhile
+        ended: list[Ended] = []
         book = Book.of_json(kept.jobs, ended.append)
         book.replay([record for record in kept.records if record.get("after", 0) <= book.lines + len(kept.answers)], kept.answers)
         yield book, ended
@@ -63,7 +70,9 @@ def books_of(state: Path) -> Iterator[tuple[Book, list[Ended]]]:
 
 def ended_in(state: Path) -> list[Bar]:
     """All runs that have ended, in their order, as far as they are kept."""
-    return [bar_of(one) for _, ended in books_of(state) for one in ended]
+    folders = folders_of(state)
+    found = [bar_of(one) for folder in folders for _, ended in books_of(folder) for one in ended]
+    return found if len(folders) == 1 else sorted(found, key=lambda bar: bar.end or 0)
 
 
 @dataclass(frozen=True)
@@ -77,11 +86,14 @@ class History:
 
 def history_of(state: Path, span: int | None) -> History:
     """The runs of the last while, or all that are kept, and those that are under way."""
-    bars, moment, book = [], 0, None
-    for book, ended in books_of(state):
-        bars += map(bar_of, ended)
-        moment = max(moment, book.moment)
-    if book is not None:
-        bars += map(bar_of_running, book.running.values())
+    bars: list[Bar] = []
+    moment = 0
+    for folder in folders_of(state):
+        book = None
+        for book, ended in books_of(folder):
+            bars += map(bar_of, ended)
+            moment = max(moment, book.moment)
+        if book is not None:
+            bars += map(bar_of_running, book.running.values())
     begin = min((bar.start for bar in bars), default=moment) if span is None else moment - span
     return History([bar for bar in bars if bar.end is None or bar.end >= begin], begin, moment)

@@ -21,15 +21,17 @@ class Executor:
             self.process = subprocess.Popen(words, stdin=pipe, stdout=pipe, encoding="latin-1", start_new_session=True)
         except OSError as error:
             raise Fault(f"program: {program!r} not started: {error.strerror}") from error
+        assert self.process.stdin and self.process.stdout
+        self.input, self.output = self.process.stdin, self.process.stdout
 
     def event(self, event: str) -> list[list[str]]:
         """Gives an event. Returns the words of each line that it is answered, its own line last."""
         with contextlib.suppress(BrokenPipeError):
-            self.process.stdin.write(event + "\n")
-            self.process.stdin.flush()
+            self.input.write(event + "\n")
+            self.input.flush()
         lines: list[str] = []
         while not lines or ANSWERS.isdisjoint(lines[-1].split()[1:2]):
-            lines.append(self.process.stdout.readline())
+            lines.append(self.output.readline())
             if not lines[-1].endswith("\n"):
                 self.lost()
         self.trace.write("".join(lines))
@@ -51,14 +53,14 @@ class Executor:
 
     def close(self) -> None:
         """Ends the program. The trace is whole now."""
-        self.process.stdin.close()
-        if self.process.stdout.read() or self.process.wait():
+        self.input.close()
+        if self.output.read() or self.process.wait():
             self.lost()
         self.trace.keep()
 
     def abandon(self) -> None:
         """Ends the program, where it still runs."""
         with contextlib.suppress(OSError):
-            self.process.stdin.close()
+            self.input.close()
         self.process.kill()
         self.process.wait()

@@ -8,7 +8,7 @@ from collections import deque
 from collections.abc import Callable
 
 from sched_jobs.attempts import Attempts, Run
-from sched_jobs.basics import SECOND, Fault, tell
+from sched_jobs.basics import SECOND, Fault, File, tell
 from sched_jobs.jobs import Job
 from sched_jobs.plan_run.executor import Executor
 from sched_jobs.plan_run.start import Start
@@ -33,14 +33,15 @@ class Runner:
         self.origin: int | None = None
         self.selector = selectors.PollSelector()
         self.watch(signals, self.obey_signals)
-        self.watch(executor.process.stdout, executor.lost)
+        self.watch(executor.output, executor.lost)
 
-    def watch(self, file: object, call: Callable[[], None]) -> None:
+    def watch(self, file: File, call: Callable[[], None]) -> None:
         """From now on this is called when there is something to read."""
         self.selector.register(file, selectors.EVENT_READ, call)
 
-    def unwatch(self, file: object) -> None:
-        self.selector.unregister(file)
+    def unwatch(self, file: File | None) -> None:
+        if file is not None:
+            self.selector.unregister(file)
 
     def sleep(self, seconds: float) -> bool:
         """Sleeps so long at most, and does what comes. Answers whether work is still taken."""
@@ -67,7 +68,7 @@ class Runner:
         return True
 
     def now(self) -> int:
-        return time.monotonic_ns() - self.origin
+        return time.monotonic_ns() - (self.origin or 0)
 
     def is_over(self) -> bool:
         return not self.attempts.running and (self.is_stopping or not (self.calls or self.waiting))
@@ -124,7 +125,8 @@ class Runner:
         words = self.event(f"start {min(self.idle)}")
         if "task" not in words:
             raise Fault(f"program: a task is due, and it answers {' '.join(words)!r}")
-        run = Run(*(int(words[place]) for place in (2, 4, 6, 8, 0)))
+        worker, task, number, due, moment = (int(words[place]) for place in (2, 4, 6, 8, 0))
+        run = Run(worker, task, number, due, moment)
         self.idle.remove(run.worker)
         self.attempts.start(run)
 

@@ -53,6 +53,13 @@ class MarkedProcess(Process):
         raise Scarce("its mark is not written" if found is None else "it was begun before")
 
 
+def readable() -> int:
+    """A descriptor that can be read."""
+    reading, writing = os.pipe()
+    os.close(writing)
+    return reading
+
+
 class FoundProcess(Group):
     """A process that a service before this one has started, as its mark says."""
 
@@ -64,17 +71,18 @@ class FoundProcess(Group):
     def descriptor(self) -> int:
         """Of one that is not there it can be read at once."""
         try:
-            self.pidfd = os.pidfd_open(self.pid)
+            found = os.pidfd_open(self.pid)
         except ProcessLookupError:
-            self.pidfd = os.eventfd(1)
+            found = readable()
         except OSError as error:
             if error.errno in SCARCE:
                 raise Scarce(error.strerror) from error
             raise
         if not self.mark.is_under_way():
-            os.close(self.pidfd)
-            self.pidfd = os.eventfd(1)
-        return self.pidfd
+            os.close(found)
+            found = readable()
+        self.pidfd = found
+        return found
 
     def is_running(self) -> bool:
         if self.pidfd is not None and select.select([self.pidfd], [], [], 0)[0]:

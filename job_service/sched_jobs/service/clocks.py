@@ -41,6 +41,10 @@ class Clocks:
         self.lead = wall - (self.base + steady)
         self.slept = steady - self.waking()
 
+    def meet(self, moment: int) -> None:
+        """Goes on from a moment that another one's clock has told."""
+        self.base = moment - self.steady()
+
     def now(self) -> int:
         """The service's moment."""
         return self.base + self.steady()

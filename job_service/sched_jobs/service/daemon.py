@@ -9,6 +9,7 @@ from sched_jobs.attempts import Run
 from sched_jobs.basics import SECOND, Fault, tell
 from sched_jobs.service.alarms import Alarms
 from sched_jobs.service.beginning import Stand
+from sched_jobs.service.decisions import still_wanted, take_back, wish
 from sched_jobs.service.due import Due
 from sched_jobs.service.loop import Loop
 from sched_jobs.service.metrics import Metrics
@@ -16,12 +17,11 @@ from sched_jobs.service.requests import Outcome, Refused, outcome_of
 from sched_jobs.service.runs import Runs
 from sched_jobs.service.sockets import Server
 from sched_jobs.service.turns import Turn
-from sched_jobs.service.wishes import is_missed, is_stale, is_wanted, wish_of
-from sched_jobs.store.entries import MISSED, Ended
+from sched_jobs.store.entries import Ended
 from sched_jobs.store.files import Unwritten
 
 # The clocks are looked at this often, and so is what can't be written.
-LONGEST_SLEEP_S = 10.0
+LONGEST_SLEEP_S = 5.0
 SECONDS_HELD = 1
 TOGETHER = SECOND // 10
 Reply = Callable[[object], None]
@@ -41,8 +41,8 @@ class Daemon:
         self.left_at, self.held_until, self.is_anew = 0, 0.0, True
         self.book.listener = self.note_end
         loop.watch(signals, self.obey_signals)
-        loop.watch(stand.engine.process.stdout, stand.engine.lost)
-        loop.watch(stand.engine.process.stderr, stand.engine.hear)
+        loop.watch(stand.engine.output, stand.engine.lost)
+        loop.watch(stand.engine.told, stand.engine.hear)
 
     # ---- from the begin to the end
 
@@ -50,7 +50,7 @@ class Daemon:
         """Serves until it is to stop, and what runs has ended or is left."""
         self.runs.take_up_all(self.stand.was_rebooted)
         self.look_at_all()
-        server = Server(self.folder / "socket", self.loop.watch, self.loop.unwatch, lambda *asked: self.asked.append(asked))
+        server = Server(self.folder / "socket", self.loop.watch, self.loop.unwatch, lambda asked, reply: self.asked.append((asked, reply)))
         tell(f"sched-jobs: serves {self.folder}: {len(self.book.entries)} jobs, {self.book.lines} lines")
         self.alarms.ready()
         while not self.is_over():
@@ -58,9 +58,9 @@ class Daemon:
             self.attempts.end_due()
             self.attempts.try_again(is_begun=self.leaving is None)
             self.turn()
-            self.metrics.write(self)
+            self.metrics.write({"": self})
         server.close()
-        self.metrics.write(self, is_last=True)
+        self.metrics.write({"": self}, is_last=True)
         self.store.close()
         self.stand.engine.close()
 
@@ -103,7 +103,7 @@ class Daemon:
         now = max(self.clocks.now(), self.book.moment)
         turn, ended, asked = Turn(self.book, now), self.runs.ended, self.asked
         if self.is_anew:
-            self.take_back(turn, now)
+            take_back(turn, self.book, self.clocks, now)
         for run in ended:
             turn.say(*self.runs.end_of(run))
         outcomes = [(self.outcome(turn, request, reply), reply) for request, reply in asked]
@@ -128,13 +128,14 @@ class Daemon:
         for run in ended:
             self.stand.marks.forget(run.task, run.number, run.attempt)
         changed = [self.book.entries[name] for name in self.book.dirty if name in self.book.entries]
-        now = self.clocks.now()
-        self.book.dirty = {entry.name for entry in changed if is_wanted(entry, self.book) or is_stale(entry, self.clocks, now)}
+        self.book.dirty = still_wanted(self.book, self.clocks, self.book.dirty)
         for entry in changed:
             self.due.note(entry)
         self.runs.begin_new()
         for outcome, reply in outcomes:
             if outcome is not None:
+                if outcome.cancel is not None:
+                    self.runs.cancel(*outcome.cancel)
                 outcome.after()
                 reply(outcome.reply())
         if self.store.is_full():
@@ -164,29 +165,9 @@ class Daemon:
         """Tells the executor what is wanted of the jobs that changed. Those of which a run ends in this turn are looked at again
         behind it."""
         names, self.book.dirty = self.book.dirty, set()
-        if self.leaving is not None:
-            return names
-        for name in names:
-            entry = self.book.entries.get(name)
-            if entry is None:
-                continue
-            if is_stale(entry, self.clocks, turn.now):
-                turn.say(f"cancel {entry.task}")
-            elif (wish := wish_of(entry, self.book, self.clocks, call)) is not None:
-                turn.say(wish.line, wish.note, is_durable=True)
+        if self.leaving is None:
+            wish(turn, self.book, self.clocks, names, call)
         return names
-
-    def take_back(self, turn: Turn, now: int) -> None:
-        """Takes back what stands no more, since a clock was set or nobody was there. The next turn submits it as it stands now. Once,
-        the executor is told to keep nothing of what is taken back."""
-        if not self.book.removes:
-            turn.say("call policy remove true")
-        for entry in list(self.book.entries.values()):
-            if is_missed(entry, self.clocks, now):
-                turn.record({"after": self.book.lines, "set": entry.name, "state": MISSED, "missed": entry.missed + 1})
-            elif is_stale(entry, self.clocks, now):
-                turn.say(f"cancel {entry.task}")
-                self.book.dirty.discard(entry.name)
 
     # ---- what comes, and what is told
 

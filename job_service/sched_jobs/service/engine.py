@@ -9,7 +9,7 @@ import time
 from pathlib import Path
 
 from sched_jobs.basics import Fault, tell
-from sched_jobs.store.files import InUse
+from sched_jobs.store.files import InUse, Unfit
 from sched_jobs.store.segments import is_own_line
 
 # So many lines, and what answers them, fit into the pipes at once.
@@ -31,6 +31,8 @@ class Engine:
             self.process = subprocess.Popen(words, stdin=pipe, stdout=pipe, stderr=pipe, bufsize=0, start_new_session=True)
         except OSError as error:
             raise Fault(f"program: {program!r} not started: {error.strerror}") from error
+        assert self.process.stdin and self.process.stdout and self.process.stderr
+        self.input, self.output, self.told = self.process.stdin, self.process.stdout, self.process.stderr
         self.program, self.has_answers = program, has_answers
         self.said, self.rest, self.has_begun = "", b"", False
         self.answers: list[list[str]] = []
@@ -41,52 +43,56 @@ class Engine:
             self.abandon()
             raise
 
-    def begin(self) -> None:
-        """Asks something, so that what stands before the answer is all that was told of the start."""
-        self.write("call ask\n")
+    def resume(self, asked: int) -> None:
+        """Waits for where the program goes on, and for the answers to what was not answered before, and to so many lines behind it."""
         limit = time.monotonic() + SECONDS_TO_BEGIN
         while not (found := RESUMED.search(self.said)):
             self.wait_for_any(limit)
         self.lines = int(found[1])
         behind = self.lines - self.has_answers
         if behind < 0:
-            raise Fault(f"the journal has {self.lines} lines, and {self.has_answers} were answered")
-        while len(self.answers) <= behind:
+            raise Unfit(f"the journal has {self.lines} lines, and {self.has_answers} were answered")
+        while len(self.answers) < behind + asked:
             self.wait_for_any(limit)
-        self.answered = self.taken(behind + 1)
+        self.answered = self.taken(behind + asked)
+
+    def begin(self) -> None:
+        """Asks something, so that what stands before the answer is all that was told of the start."""
+        self.write("call ask\n")
+        self.resume(1)
         self.lines += 1
         self.hear()
         self.running = {tuple(map(int, words)) for words in RUNNING.findall(self.said)}
 
     def wait_for_any(self, limit: float) -> None:
         """Reads what is told and what is answered, in whatever order it comes."""
-        ready, _, _ = select.select([self.process.stderr, self.process.stdout], [], [], max(0, limit - time.monotonic()))
+        ready, _, _ = select.select([self.told, self.output], [], [], max(0, limit - time.monotonic()))
         if not ready:
             raise Fault(f"program: {self.program!r} does not answer")
         self.hear()
-        if self.process.stdout in ready:
+        if self.output in ready:
             self.read()
 
     def hear(self) -> None:
         """Reads what is told on standard error. Lines that are none of the start's are passed on."""
-        while select.select([self.process.stderr], [], [], 0)[0]:
-            piece = os.read(self.process.stderr.fileno(), 65_536).decode("latin-1")
+        while select.select([self.told], [], [], 0)[0]:
+            piece = os.read(self.told.fileno(), 65_536).decode("latin-1")
             self.said = piece if self.has_begun else self.said + piece
             if not piece:
                 self.lost()
-            if self.has_begun:
-                tell(piece.rstrip("\n"))
+            if self.has_begun and (told := [line for line in piece.splitlines() if RUNNING.match(line) is None]):
+                tell("\n".join(told))
 
     def write(self, text: str) -> None:
         """Tells lines. That the program has ended is seen where it is to answer."""
         left = text.encode()
         with contextlib.suppress(BrokenPipeError):
             while left:
-                left = left[os.write(self.process.stdin.fileno(), left):]
+                left = left[os.write(self.input.fileno(), left):]
 
     def read(self) -> None:
         """Reads answers. No line of the service ends a task, so each is one line, and whole as it comes."""
-        piece = os.read(self.process.stdout.fileno(), 65_536)
+        piece = os.read(self.output.fileno(), 65_536)
         if not piece:
             self.lost()
         *whole, self.rest = (self.rest + piece).split(b"\n")
@@ -119,7 +125,7 @@ class Engine:
         with contextlib.suppress(subprocess.TimeoutExpired):
             self.process.wait(SECONDS_TO_END)
         rest = b""
-        while select.select([self.process.stderr], [], [], 0)[0] and (piece := os.read(self.process.stderr.fileno(), 65_536)):
+        while select.select([self.told], [], [], 0)[0] and (piece := os.read(self.told.fileno(), 65_536)):
             rest += piece
         said = (self.said + rest.decode("latin-1")).strip().splitlines()
         if IN_USE in said:
@@ -131,24 +137,32 @@ class Engine:
 
     def close(self) -> None:
         """Ends the program, which keeps what it was told."""
-        self.process.stdin.close()
+        self.input.close()
         if self.process.wait(SECONDS_TO_BEGIN):
             tell(f"sched-jobs: program: {self.program!r} ended with status {self.process.returncode}")
 
     def abandon(self) -> None:
         """Ends the program, where it still runs."""
         with contextlib.suppress(OSError):
-            self.process.stdin.close()
+            self.input.close()
         self.process.kill()
         self.process.wait()
 
 
-def opened(program: str, journal: Path, workers: int, has_answers: int) -> Engine:
+class ReplicaEngine(Engine):
+    """An executor that is told the lines of a log, and no other one: so nothing is asked at its begin, and journals of one log have
+    the same bytes."""
+
+    def begin(self) -> None:
+        self.resume(0)
+
+
+def opened(program: str, journal: Path, workers: int, has_answers: int, kind: type[Engine] = Engine) -> Engine:
     """The executor. One whose service was killed has its journal until it has seen that."""
     limit = time.monotonic() + SECONDS_TO_END
     while True:
         try:
-            return Engine(program, journal, workers, has_answers)
+            return kind(program, journal, workers, has_answers)
         except InUse:
             if time.monotonic() > limit:
                 raise

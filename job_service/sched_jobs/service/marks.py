@@ -84,20 +84,20 @@ class Marks:
 
     def __init__(self, folder: Path) -> None:
         self.folder = folder
-        folder.mkdir(mode=0o700, exist_ok=True)
+        folder.mkdir(mode=0o700, parents=True, exist_ok=True)
 
     def path(self, task: int, run: int, attempt: int) -> Path:
         return self.folder / f"{task}.{run}.{attempt}"
 
+    def each(self) -> list[tuple[int, int, int]]:
+        """The task, the run and the attempt of each mark."""
+        names = [name.split(".") for name in os.listdir(self.folder)]
+        return sorted((int(words[0]), int(words[1]), int(words[2])) for words in names
+                      if len(words) == 3 and all(word.isdigit() for word in words))
+
     def attempts(self) -> dict[tuple[int, int], int]:
         """The last attempt of each run that has one."""
-        found: dict[tuple[int, int], int] = {}
-        for name in os.listdir(self.folder):
-            words = name.split(".")
-            if len(words) == 3 and all(word.isdigit() for word in words):
-                task, run, attempt = map(int, words)
-                found[task, run] = max(attempt, found.get((task, run), 0))
-        return found
+        return {(task, run): attempt for task, run, attempt in self.each()}
 
     def forget(self, task: int, run: int, attempts: int) -> None:
         """Takes away the marks of a run that has ended."""

@@ -2,6 +2,7 @@
 
 import os
 import time
+from collections.abc import Mapping
 from pathlib import Path
 from typing import Protocol
 
@@ -46,10 +47,10 @@ def samples(house: House, is_up: bool) -> dict[str, list[tuple[str, object]]]:
     found |= {"up": [("", int(is_up))], "lateness_seconds": [("", told["latest"] / SECOND)]}
     found |= {"written_seconds": [("", told["now"] / SECOND)]}
     found["jobs"] = [(f'{{state="{state}"}}', count) for state, count in sorted(told["states"].items())]
-    ended = [entry for entry in house.book.entries.values() if entry.last is not None]
+    ended = [(entry.name, entry.last) for entry in house.book.entries.values() if entry.last is not None]
     ahead = house.clocks.ahead()
-    found["job_failed"] = [(f'{{job="{entry.name}"}}', int(is_failure(entry.last))) for entry in ended]
-    found["job_last_end_seconds"] = [(f'{{job="{entry.name}"}}', (entry.last["end"] + ahead) / SECOND) for entry in ended]
+    found["job_failed"] = [(f'{{job="{name}"}}', int(is_failure(last))) for name, last in ended]
+    found["job_last_end_seconds"] = [(f'{{job="{name}"}}', (last["end"] + ahead) / SECOND) for name, last in ended]
     return found
 
 
@@ -57,11 +58,18 @@ def is_failure(last: Json) -> bool:
     return bool(last["code"]) and last["why"] != TAKEN_AS_OK
 
 
-def text_of(house: House, is_up: bool) -> str:
-    lines, found = [], samples(house, is_up)
+def labelled(labels: str, more: str) -> str:
+    """Labels, with another one where there is one."""
+    words = [word for word in (more, labels.strip("{}")) if word]
+    return f"{{{','.join(words)}}}" if words else ""
+
+
+def text_of(houses: Mapping[str, House], is_up: bool) -> str:
+    """The text. Of several houses each has a label of its own."""
+    lines, found = [], {label: samples(house, is_up) for label, house in houses.items()}
     for name, (kind, help_text) in HELP.items():
         lines += [f"# HELP {FRONT}_{name} {help_text}", f"# TYPE {FRONT}_{name} {kind}"]
-        lines += [f"{FRONT}_{name}{labels} {value}" for labels, value in found[name]]
+        lines += [f"{FRONT}_{name}{labelled(labels, label)} {value}" for label in found for labels, value in found[label][name]]
     return "\n".join(lines) + "\n"
 
 
@@ -71,14 +79,14 @@ class Metrics:
     def __init__(self, path: Path) -> None:
         self.path, self.written, self.is_told = path, 0.0, False
 
-    def write(self, house: House, is_last: bool = False) -> None:
+    def write(self, houses: Mapping[str, House], is_last: bool = False) -> None:
         """A reader finds the old file or the new one. A fault is told once."""
         if not is_last and time.monotonic() - self.written < SECONDS_BETWEEN and self.written:
             return
         self.written = time.monotonic()
         part = self.path.with_name(self.path.name + ".new")
         try:
-            part.write_text(text_of(house, not is_last))
+            part.write_text(text_of(houses, not is_last))
             os.replace(part, self.path)
         except OSError as error:
             if not self.is_told:

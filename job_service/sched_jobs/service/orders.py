@@ -54,9 +54,11 @@ class Timing:
         return self.every is None and self.after is None and self.cron is None
 
     def when(self) -> When:
+        assert self.at is not None
         return read_when(self.at, self.zone)
 
     def calendar(self) -> Cron:
+        assert self.cron is not None
         return Cron(self.cron, self.zone)
 
 
@@ -113,9 +115,11 @@ def on_crash_of(value: object) -> str:
 
 def one_of(words: tuple[str, ...], value: object) -> str:
     """One of some words, the first where it is left out."""
-    if value is not None and value not in words:
+    if value is None:
+        return words[0]
+    if not isinstance(value, str) or value not in words:
         raise ValueError
-    return words[0] if value is None else value
+    return value
 
 
 ORDER_KEYS = KEYS | {
@@ -155,12 +159,13 @@ def check_timing(name: str, timing: Timing, table: Json, source: Source) -> None
             raise source.fault(f"{ORDER_KEYS[word].fault} {name!r}: {error}", name, word) from error
 
 
-def order_of(name: str, table: object, source: Source = SPOKEN) -> Order:
+def order_of(name: object, table: object, source: Source = SPOKEN) -> Order:
     """The order of a table, or a Fault. A job that runs again and again goes on after a failure where it does not say."""
-    if not is_name(name):
+    if not isinstance(name, str) or not is_name(name):
         raise source.fault(f"BadName {name!r}: 1 to {LONGEST_NAME} letters, digits and -_.@: are wanted, with none of .- in front")
     fields = fields_of(name, table, source, ORDER_KEYS)
     timing = Timing(**{word: fields.pop(word) for word in OF_TIMING})
+    assert isinstance(table, dict)
     check_timing(name, timing, table, source)
     rest = {word: fields.pop(word) for word in OF_ORDER}
     if not timing.is_once and "on_failure" not in table:

@@ -12,6 +12,7 @@ from sched_jobs.basics import Fault, Json
 from sched_jobs.service import views
 from sched_jobs.service.clocks import Clocks
 from sched_jobs.service.orders import TIMES, Order, order_of
+from sched_jobs.service.wishes import handled_of, known
 from sched_jobs.store.book import Book
 from sched_jobs.store.entries import CANCELLED, LIVE, PAUSED, Entry
 
@@ -24,11 +25,16 @@ class Refused(Exception):
 
 
 class Desk(Protocol):
-    """What requests see of the service."""
+    """What requests see of the jobs."""
 
     folder: Path
     book: Book
     clocks: Clocks
+
+
+class ServiceDesk(Desk, Protocol):
+    """What requests see of the service."""
+
     attempts: Attempts
     workers: int
     served_since: int
@@ -38,11 +44,13 @@ class Desk(Protocol):
 
 @dataclass
 class Outcome:
-    """What becomes of a request: records, what is done once they are durable, and what is answered then."""
+    """What becomes of a request: records, what is done once they are durable, and what is answered then. `cancel` are the tasks whose
+    runs have no further attempt, and whether they are ended."""
 
     reply: Callable[[], Json]
     records: list[Json] = field(default_factory=list)
     after: Callable[[], None] = lambda: None
+    cancel: tuple[set[int], bool] | None = None
 
 
 def times_of(order: Order, name: str, clocks: Clocks) -> Json:
@@ -63,7 +71,7 @@ def new_entry(name: str, table: Json, source: str, clocks: Clocks) -> Entry:
     return Entry(name, table, clocks.wall(), **times_of(order_of(name, table), name, clocks), source=source)
 
 
-def order_for(desk: Desk, name: str, table: Json) -> Order:
+def order_for(desk: Desk, name: object, table: object) -> Order:
     """The order of a table, whose output is none of the service's own files."""
     order = order_of(name, table)
     output = order.job.output
@@ -100,25 +108,19 @@ def told(desk: Desk, name: str) -> Json:
 def add(desk: Desk, asked: Json) -> Outcome:
     name, table = asked.get("name"), asked.get("table")
     order_for(desk, name, table)
+    assert isinstance(name, str) and isinstance(table, dict)
     before = desk.book.entries.get(name)
     if before is not None and before.is_open:
         raise Refused(f"Known {name!r}: there is a job of this name")
     entry = new_entry(name, table, "add", desk.clocks)
-    return Outcome(lambda: told(desk, name), [put(desk, entry)])
+    return Outcome(lambda: told(desk, entry.name), [put(desk, entry)])
 
 
 def cancel(desk: Desk, asked: Json) -> Outcome:
     entry = entry_named(desk, asked)
     tasks = {run.task for run in desk.book.runs_of(entry.name)}
-
-    def after() -> None:
-        for task in tasks:
-            desk.attempts.note_cancelled(task)
-        for run in desk.attempts.running.values():
-            if run.task in tasks and run.process is not None and asked.get("end") is True:
-                run.process.ask_to_end(desk.clocks.now())
-
-    return Outcome(lambda: told(desk, entry.name), [change(desk, entry, state=CANCELLED)], after)
+    cancelled = [change(desk, entry, state=CANCELLED)]
+    return Outcome(lambda: told(desk, entry.name), cancelled, cancel=(tasks, asked.get("end") is True))
 
 
 def pause(desk: Desk, asked: Json) -> Outcome:
@@ -136,10 +138,10 @@ def resume(desk: Desk, asked: Json) -> Outcome:
     fields: Json = {"state": LIVE}
     timing, now = entry.order.timing, desk.clocks.now()
     if timing.every is not None:
-        handled = entry.due - timing.every if entry.grid is None else entry.grid
+        handled = handled_of(entry, timing.every)
         fields["grid"] = handled + max(0, (now - handled) // timing.every) * timing.every
     if timing.cron is not None:
-        fields["aimed"] = max(entry.aimed, desk.clocks.wall())
+        fields["aimed"] = max(known(entry.aimed), desk.clocks.wall())
     return Outcome(lambda: told(desk, entry.name), [change(desk, entry, **fields)])
 
 
@@ -186,25 +188,40 @@ def show(desk: Desk, asked: Json) -> Outcome:
     return Outcome(lambda: told(desk, entry.name))
 
 
-def status(desk: Desk, asked: Json) -> Outcome:
+CHANGES: dict[str, Callable[[Desk, Json], Outcome]] = {
+    "add": add, "cancel": cancel, "pause": pause, "resume": resume, "reload": reload,
+}
+LOOKS: dict[str, Callable[[Desk, Json], Outcome]] = {"list": show_all, "show": show}
+
+
+def status(desk: ServiceDesk, asked: Json) -> Outcome:
     return Outcome(lambda: views.of_service(desk.book, desk.clocks, desk.workers, desk.served_since))
 
 
-def stop(desk: Desk, asked: Json) -> Outcome:
-    how = asked.get("how", "wait")
-    if how not in ("wait", "end", "leave"):
-        raise Refused('how is "wait", "end" or "leave"')
+def stop(desk: ServiceDesk, asked: Json) -> Outcome:
+    how = how_of(asked)
     return Outcome(lambda: {"running": len(desk.attempts.processes())}, after=lambda: desk.leave(how))
 
 
-REQUESTS: dict[str, Callable[[Desk, dict], Outcome]] = {
-    "add": add, "cancel": cancel, "pause": pause, "resume": resume, "reload": reload, "list": show_all, "show": show,
-    "status": status, "stop": stop,
-}
+def how_of(asked: Json) -> str:
+    """How a stop is meant."""
+    how = asked.get("how", "wait")
+    if how not in ("wait", "end", "leave"):
+        raise Refused('how is "wait", "end" or "leave"')
+    return how
 
 
-def outcome_of(desk: Desk, asked: object) -> Outcome:
-    """What becomes of a request; a Refused or a Fault says why nothing does."""
+REQUESTS: dict[str, Callable[[ServiceDesk, Json], Outcome]] = {**CHANGES, **LOOKS, "status": status, "stop": stop}
+
+
+def word_of(asked: object) -> tuple[str, Json]:
+    """What is asked, or a Refused."""
     if not isinstance(asked, dict) or not isinstance(asked.get("do"), str) or asked["do"] not in REQUESTS:
         raise Refused(f"a request is wanted, and do is one of {', '.join(REQUESTS)}")
-    return REQUESTS[asked["do"]](desk, asked)
+    return asked["do"], asked
+
+
+def outcome_of(desk: ServiceDesk, asked: object) -> Outcome:
+    """What becomes of a request; a Refused or a Fault says why nothing does."""
+    word, request = word_of(asked)
+    return REQUESTS[word](desk, request)

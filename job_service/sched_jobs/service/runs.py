@@ -1,7 +1,9 @@
 """The service's runs: their processes and marks, and what the executor is told of their ends."""
 
+from collections.abc import Callable
+
 from sched_jobs.attempts import Attempts, Run
-from sched_jobs.basics import SECOND, Json, tell
+from sched_jobs.basics import SECOND, File, Json, tell
 from sched_jobs.jobs import Job
 from sched_jobs.local_times import shown
 from sched_jobs.processes import Group
@@ -13,6 +15,14 @@ from sched_jobs.store.book import Book
 from sched_jobs.store.entries import LOST_SIGHT, RAN, TAKEN_AS_OK, Entry, Running
 
 
+def told_end(entry: Entry, worker: int, code: int, attempts: int, is_lost: bool) -> tuple[str, Json]:
+    """What the executor is told of the end of a run of a job, and what is noted of that."""
+    why = RAN if not is_lost else TAKEN_AS_OK if entry.order.on_crash == "ok" else LOST_SIGHT
+    stops = bool(code) and why != TAKEN_AS_OK and not entry.order.job.goes_on
+    note: Json = {"code": code, "attempts": attempts, "why": why} | ({"stops": True} if stops else {})
+    return f"finish {worker} {'fail' if stops else 'ok'} {code}", note
+
+
 class Runs:
     """The house of the attempts. `ended` are the runs whose end the executor is still to be told."""
 
@@ -21,7 +31,7 @@ class Runs:
 
     def __init__(self, book: Book, clocks: Clocks, marks: Marks, loop: Loop) -> None:
         self.book, self.clocks, self.marks = book, clocks, marks
-        self.watch, self.unwatch = loop.watch, loop.unwatch
+        self.loop = loop
         self.attempts = Attempts(self)
         self.ended: list[Run] = []
 
@@ -49,14 +59,25 @@ class Runs:
             if running.worker not in self.attempts.running:
                 self.attempts.start(Run(running.worker, running.task, running.number, running.due, running.start))
 
+    def cancel(self, tasks: set[int], is_ended: bool) -> None:
+        """Runs of these tasks have no further attempt; what is under way goes on, unless its job or who has cancelled ends it."""
+        for task in tasks:
+            self.attempts.note_cancelled(task)
+        for run in self.attempts.running.values():
+            if is_ended and run.task in tasks and run.process is not None:
+                run.process.ask_to_end(self.now())
+
     def end_of(self, run: Run) -> tuple[str, Json]:
         """What the executor is told of the end of a run, and what is noted of that."""
-        why = RAN if not run.is_lost else TAKEN_AS_OK if self.entry(run).order.on_crash == "ok" else LOST_SIGHT
-        stops = bool(run.code) and why != TAKEN_AS_OK and not self.job(run).goes_on
-        note = {"code": run.code, "attempts": run.attempt, "why": why} | ({"stops": True} if stops else {})
-        return f"finish {run.worker} {'fail' if stops else 'ok'} {run.code}", note
+        return told_end(self.entry(run), run.worker, run.code, run.attempt, run.is_lost)
 
     # ---- what attempts want of their house
+
+    def watch(self, file: File, call: Callable[[], None]) -> None:
+        self.loop.watch(file, call)
+
+    def unwatch(self, file: File | None) -> None:
+        self.loop.unwatch(file)
 
     def now(self) -> int:
         return self.clocks.now()

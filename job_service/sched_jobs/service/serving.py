@@ -14,6 +14,9 @@ from sched_jobs.service.metrics import Metrics
 
 def answer(asked: argparse.Namespace) -> int:
     """Serves. At a fault what runs is left to the service behind this one, as it is where this one is killed."""
+    if asked.cluster is not None:
+        from sched_jobs.cluster import serving
+        return serving.answer(asked)
     signals = wakes_by_signals()
     program = os.path.abspath(program_named(asked.sched))
     folder = Path(os.path.abspath(asked.state))

@@ -9,6 +9,7 @@ import random
 from dataclasses import dataclass
 
 from sched_jobs.basics import SECOND, Json
+from sched_jobs.cron import Cron
 from sched_jobs.service.clocks import LEAST_SETTING, Clocks
 from sched_jobs.store.book import Book
 from sched_jobs.store.entries import LIVE, PAUSED, Entry
@@ -67,8 +68,15 @@ def submission(entry: Entry, clocks: Clocks, call: int) -> Wish:
     if timing.cron is not None:
         return at_the_next_time(entry, clocks, call)
     if timing.at is not None:
-        return noted(entry, f"call schedule {delay_until(entry.aim, clocks, call)}", aim=entry.aim)
-    return noted(entry, f"call schedule {max(0, entry.due - call)}")
+        aim = known(entry.aim)
+        return noted(entry, f"call schedule {delay_until(aim, clocks, call)}", aim=aim)
+    return noted(entry, f"call schedule {max(0, known(entry.due) - call)}")
+
+
+def known(moment: int | None) -> int:
+    """A moment that a job of its kind has."""
+    assert moment is not None
+    return moment
 
 
 def noted(entry: Entry, line: str, **note: object) -> Wish:
@@ -83,9 +91,14 @@ def delay_until(aim: int, clocks: Clocks, call: int) -> int:
 # ---- a grid of the service's moments
 
 
+def handled_of(entry: Entry, period: int) -> int:
+    """The last moment of its grid of which a run has begun or was left out."""
+    return known(entry.due) - period if entry.grid is None else entry.grid
+
+
 def on_the_grid(entry: Entry, period: int, call: int) -> Wish:
     """A periodic task from the next moment of the grid on, or one for a moment that was missed."""
-    handled = entry.due - period if entry.grid is None else entry.grid
+    handled = handled_of(entry, period)
     missed = max(0, (call - 1 - handled) // period)
     catch_up = entry.order.catch_up
     if missed and catch_up == "all":
@@ -103,7 +116,9 @@ def on_the_grid(entry: Entry, period: int, call: int) -> Wish:
 def at_the_next_time(entry: Entry, clocks: Clocks, call: int) -> Wish:
     """A task for the next calendar time, or for one that was missed."""
     wall, calendar, catch_up = clocks.wall_at(call), entry.order.timing.calendar(), entry.order.catch_up
-    aimed = entry.aimed if entry.aimed <= wall + LONGEST_SET_BACK else wall
+    aimed = known(entry.aimed)
+    if aimed > wall + LONGEST_SET_BACK:
+        aimed = wall
     behind, until = aimed // SECOND, wall // SECOND
     last = calendar.last(behind, until)
     if last is None or catch_up == "none":
@@ -117,7 +132,7 @@ def at_the_next_time(entry: Entry, clocks: Clocks, call: int) -> Wish:
     return noted(entry, f"call schedule {delay}", aim=aim * SECOND, jitter=jitter, **({"missed": missed} if missed else {}))
 
 
-def counted(calendar: object, behind: int, last: int | None) -> int:
+def counted(calendar: Cron, behind: int, last: int | None) -> int:
     """How many times there are behind one up to the last, counted up to some."""
     number = 0
     while last is not None and behind < last and number < MOST_COUNTED:

@@ -8,6 +8,12 @@ book that there was. Nothing here reads a clock or a file. A record is one of
     {"line": L, "job": NAME, ..: ..}         a note: line L submits a task for this job, with what it stands for
     {"line": L, "code": C, "why": ..}        a note: line L ends a run that had this code, and with "stops" its job
 
+and on many machines also
+
+    {"line": L, "node": NODE}                a note: the run that line L begins is this node's
+    {"after": N, "move": W, "node": ..}      the run of worker W is another node's from now on, which begins with another attempt
+    {"after": N, "group": G, "revision": ..} the group of the log behind which all this stands, with its lines
+
 where N is how many lines had been answered.
 """
 
@@ -15,8 +21,9 @@ from collections.abc import Callable, Iterable
 
 from sched_jobs.basics import Fault, Json
 from sched_jobs.store.entries import RAN, Ended, Entry, Running
+from sched_jobs.store.files import Unfit
 
-VERSION = 1
+VERSION = 2
 # How many jobs that are over are still known.
 MOST_OVER = 1_000
 Listener = Callable[[Ended], None]
@@ -31,6 +38,9 @@ class Book:
         self.running: dict[int, Running] = {}
         self.notes: dict[int, Json] = {}
         self.lines = self.moment = self.clock = self.runs = self.failed = 0
+        # The last group of the log, its revision, what its writer's wall clock was ahead, and the last mail of each node.
+        self.group = self.revision = self.ahead = 0
+        self.heard: dict[str, str] = {}
         self.removes = False
         self.dirty: set[str] = set()
         # The jobs that are over, the first of them first.
@@ -44,6 +54,7 @@ class Book:
             "version": VERSION, "lines": self.lines, "moment": self.moment, "clock": self.clock, "runs": self.runs,
             "failed": self.failed, "removes": self.removes, "entries": [entry.as_json() for entry in self.entries.values()],
             "tasks": list(self.tasks.items()), "running": [vars(run) for run in self.running.values()],
+            "group": self.group, "revision": self.revision, "ahead": self.ahead, "heard": self.heard,
         }
 
     @staticmethod
@@ -53,6 +64,7 @@ class Book:
         book = Book(listener)
         book.lines, book.moment, book.clock = value["lines"], value["moment"], value["clock"]
         book.runs, book.failed, book.removes = value["runs"], value["failed"], value["removes"]
+        book.group, book.revision, book.ahead, book.heard = value["group"], value["revision"], value["ahead"], value["heard"]
         book.entries = {fields["name"]: Entry(**fields) for fields in value["entries"]}
         book.over = {entry.name: None for entry in book.entries.values() if not entry.is_open}
         book.tasks = {task: name for task, name in value["tasks"]}
@@ -65,7 +77,7 @@ class Book:
         for record in records:
             while self.lines < record.get("after", 0):
                 if (answer := next(left, None)) is None:
-                    raise Fault(f"a record stands behind {record['after']} lines, and the journal has {self.lines}")
+                    raise Unfit(f"a record stands behind {record['after']} lines, and the journal has {self.lines}")
                 self.answer(answer)
             self.record(record)
         for answer in left:
@@ -77,14 +89,22 @@ class Book:
         if "line" in record:
             self.notes[record["line"]] = record
         elif "put" in record:
-            entry = Entry(**record["put"])
-            self.entries.pop(entry.name, None)
-            self.over.pop(entry.name, None)
-            self.entries[entry.name] = entry
-            self.dirty.add(entry.name)
-            self.forget_some()
+            self.put(Entry(**record["put"]))
+        elif "group" in record:
+            self.group, self.revision, self.ahead = record["group"], record["revision"], record["ahead"]
+            self.heard = self.heard | record["heard"]
+        elif "move" in record:
+            run = self.running[record["move"]]
+            run.node, run.attempt, run.fence = record["node"], record["attempt"], self.revision
         else:
             self.set(self.entries[record["set"]], {key: value for key, value in record.items() if key not in ("set", "after")})
+
+    def put(self, entry: Entry) -> None:
+        self.entries.pop(entry.name, None)
+        self.over.pop(entry.name, None)
+        self.entries[entry.name] = entry
+        self.dirty.add(entry.name)
+        self.forget_some()
 
     def set(self, entry: Entry, fields: Json) -> None:
         for key, value in fields.items():
@@ -123,7 +143,9 @@ class Book:
             case ["submit", task, _, "due", due]:
                 self.submitted(int(task), int(due), note)
             case ["start", worker, "task", task, "run", number, "due", due]:
-                self.started(Running(int(worker), int(task), int(number), int(due), int(words[0]), self.tasks[int(task)]))
+                run = Running(int(worker), int(task), int(number), int(due), int(words[0]), self.tasks[int(task)])
+                run.node, run.fence = note.get("node", ""), self.revision
+                self.started(run)
             case ["finish", worker, "task", _, "run", _, *outcome]:
                 self.finished(self.running.pop(int(worker)), int(words[0]), outcome, note)
             case ["outside", task, _]:
@@ -137,7 +159,7 @@ class Book:
 
     def submitted(self, task: int, due: int, note: Json) -> None:
         if "job" not in note:
-            raise Fault(f"nothing is noted of the task {task} that line {self.lines} submits")
+            raise Unfit(f"nothing is noted of the task {task} that line {self.lines} submits")
         entry = self.entries[note["job"]]
         self.tasks[task] = entry.name
         entry.task, entry.task_due = task, due

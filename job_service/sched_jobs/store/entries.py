@@ -64,7 +64,8 @@ class Entry:
 
 @dataclass
 class Running:
-    """A run that the executor has given out. Moments are the service's."""
+    """A run that the executor has given out. Moments are the service's. On many machines `node` has it, from an attempt on, and `fence`
+    is the revision of the log that gave it to that node."""
 
     worker: int
     task: int
@@ -72,6 +73,9 @@ class Running:
     due: int
     start: int
     name: str
+    node: str = ""
+    attempt: int = 1
+    fence: int = 0
 
 
 @dataclass(frozen=True)

@@ -16,6 +16,10 @@ class InUse(Fault):
     """Another process has a lock."""
 
 
+class Unfit(Fault):
+    """The files of a folder do not fit together."""
+
+
 class Unwritten(Fault):
     """A file was not written. What it had before stands."""
 

@@ -2,6 +2,7 @@
 
 import json
 import zlib
+from typing import Any
 
 SUM_DIGITS = 8
 
@@ -15,7 +16,7 @@ def written(value: object) -> bytes:
     return b"%08x %s\n" % (zlib.crc32(text), text)
 
 
-def read(line: bytes) -> object:
+def read(line: bytes) -> Any:
     """The object of a line, with its newline."""
     total, _, text = line.partition(b" ")
     if len(total) != SUM_DIGITS or not text.endswith(b"\n") or b"%08x" % zlib.crc32(text[:-1]) != total:
@@ -23,7 +24,7 @@ def read(line: bytes) -> object:
     return json.loads(text)
 
 
-def whole_front(content: bytes) -> tuple[list[object], int]:
+def whole_front(content: bytes) -> tuple[list[Any], int]:
     """The objects of the whole lines that a file begins with, and how many bytes these are."""
     values, size = [], 0
     for line in content.splitlines(keepends=True):

@@ -18,7 +18,7 @@ from pathlib import Path
 
 from sched_jobs.basics import Fault, Json
 from sched_jobs.store import lines
-from sched_jobs.store.files import Appended, content_of, replace, sync_folder
+from sched_jobs.store.files import Appended, Unfit, content_of, replace, sync_folder
 
 LARGEST = 8 << 20
 KEPT = 64 << 20
@@ -70,7 +70,7 @@ class Kept:
     """What a segment holds: the jobs at its begin, the records and the answers since, and the sizes of what is whole of both."""
 
     at: int
-    jobs: object
+    jobs: Json
     records: list[Json]
     answers: list[list[str]]
     record_bytes: int = 0
@@ -85,7 +85,7 @@ def read_segment(folder: Path, at: int) -> Kept:
     try:
         jobs = lines.read(content)
     except lines.NoLine as error:
-        raise Fault(f"{path}: decayed, or none of the service's") from error
+        raise Unfit(f"{path}: decayed, or none of the service's") from error
     trace, trace_bytes = whole_trace(content_of(file_of(folder, "trace", at)))
     records, record_bytes = lines.whole_front(content_of(file_of(folder, "records", at)))
     return Kept(at, jobs, records, list(answers_of(trace)), record_bytes, trace_bytes)
@@ -94,10 +94,10 @@ def read_segment(folder: Path, at: int) -> Kept:
 class Store:
     """The segment that is written. What can't be written of the trace is held, since the executor would have to be asked again."""
 
-    def __init__(self, folder: Path, at: int, jobs: object) -> None:
-        """Begins a segment, and forgets those for which there is no room."""
+    def __init__(self, folder: Path, at: int, jobs: object, may_be_there: bool = False) -> None:
+        """Begins a segment, and forgets those for which there is no room. One that is there has no answers, and is begun anew."""
         self.folder, self.at = folder, at
-        if at in segments_of(folder):
+        if at in segments_of(folder) and not may_be_there:
             raise Fault(f"{folder}: a segment begins at line {at} already")
         for kind in ("records", "trace"):
             Appended(file_of(folder, kind, at), 0).close()

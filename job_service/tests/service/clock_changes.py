@@ -19,6 +19,8 @@ def wall():
 time.time_ns = wall
 import sched_jobs.service.clocks as clocks
 clocks.Clocks.__init__.__defaults__ = (wall, *clocks.Clocks.__init__.__defaults__[1:])
+"""
+QUICK = DRIVER + """
 import sched_jobs.service.daemon as daemon
 daemon.LONGEST_SLEEP_S = 0.2
 """
@@ -36,7 +38,7 @@ def shown(moment: float) -> str:
 def set_forward(program: str) -> Checks:
     """What it is set over was missed: it is made up for as the job says. Spans are as long as they were."""
     with House(program) as house:
-        yield "it serves", house.serve(driver=DRIVER)
+        yield "it serves", house.serve(driver=QUICK)
         at = shown(time.time() + 1_800)
         house.add("runs", SHOWS, at=at)
         house.add("left-out", SHOWS, at=at, catch_up="none")
@@ -63,7 +65,7 @@ def set_back(program: str) -> Checks:
     """What has run does not run again, and what waits, waits for its time."""
     with House(program) as house:
         set_ahead(house, 3_600)
-        yield "it serves", house.serve(driver=DRIVER)
+        yield "it serves", house.serve(driver=QUICK)
         house.add("at", SHOWS, at=shown(time.time() + 3_600 + 1.5))
         house.add("span", SHOWS, **{"in": "3s"})
         at = house.add("later", SHOWS, at=shown(time.time() + 7_200))["next"]
@@ -74,7 +76,7 @@ def set_back(program: str) -> Checks:
         yield "what has run does not run again", len(house.effects("at")) == 1
         now = time.time()
         house.kill()
-        yield "the next one serves", house.serve(driver=DRIVER)
+        yield "the next one serves", house.serve(driver=QUICK)
         yield "a time stays there too", soon(lambda: abs(house.job("later")["next"] - at) < SECOND)
         house.add("new", SHOWS, **{"in": "300ms"})
         yield "spans go on", soon(lambda: house.is_over("new"), 20) and time.time() - now < 60
@@ -87,7 +89,7 @@ def set_back(program: str) -> Checks:
 def away(program: str) -> Checks:
     """Nobody was there for three hours: what was missed is made up for as the jobs say."""
     with House(program) as house:
-        yield "it serves", house.serve(driver=DRIVER)
+        yield "it serves", house.serve(driver=QUICK)
         for word in ("last", "all", "none"):
             house.add(f"every-{word}", SHOWS, every="1h", catch_up=word)
             house.add(f"once-{word}", SHOWS, catch_up=word, **{"in": "1h"})
@@ -96,7 +98,7 @@ def away(program: str) -> Checks:
         house.add("after", SHOWS, after="1h")
         house.kill()
         set_ahead(house, 3 * 3_600 + 60)
-        yield "the next one serves", house.serve(driver=DRIVER)
+        yield "the next one serves", house.serve(driver=QUICK)
         wanted = {"every-last": 1, "every-all": 3, "every-none": 0, "once-last": 1, "once-all": 1, "once-none": 0, "after": 1}
         if has_cron():
             wanted |= {"cron-last": 1, "cron-all": 3, "cron-none": 0}
@@ -113,4 +115,16 @@ def away(program: str) -> Checks:
         yield from house.holds()
 
 
-TESTS = [set_forward, set_back, away]
+def noticed(program: str) -> Checks:
+    """A clock that is set is noticed within 10 s, also where nothing else comes."""
+    with House(program) as house:
+        yield "it serves", house.serve(driver=DRIVER)
+        house.add("at", SHOWS, at=shown(time.time() + 1_800))
+        time.sleep(1)
+        set_ahead(house, 3_600)
+        yield "in time", soon(lambda: bool(house.file("effects")), 10)
+        yield "it stops", stopped(house)
+        yield from house.holds()
+
+
+TESTS = [set_forward, set_back, away, noticed]
