@@ -40,6 +40,7 @@ pub book_kept : (cells : List ℕ) (b : BookView) → IsBook cells b → IsKept 
 book_kept cells b book = record {
   orderly = book.orderly;
   means = book.means;
+  unpurged = book.unpurged;
   stands = book.stands;
   written = book.written;
   agrees = record {
@@ -61,6 +62,7 @@ pub kept_book : (cells : List ℕ) (b : BookView) → IsKept b.core b.seat b.hap
 kept_book cells b kept joined notes = record {
   orderly = kept.orderly;
   means = kept.means;
+  unpurged = kept.unpurged;
   stands = kept.stands;
   written = kept.written;
   entries = kept.agrees.count;
@@ -160,6 +162,7 @@ pub opening_book : (cells : List ℕ) (table : TableId) (calls : List Planned) (
 opening_book cells table calls workers limit n tasks m v notes forestalled orderly opens seat count none = record {
   orderly = subst IsPlanned (sym opens.calls) orderly;
   means = tt;
+  unpurged = refl;
   stands = opens.stands;
   written = refl;
   entries = ap (λ (w : CoreSeatView). length w.entries) seat ∙ (length-replicate n vacant_word ∙ (count ∙ ap task_count (sym opens.calls)));

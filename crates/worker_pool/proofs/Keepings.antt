@@ -28,11 +28,11 @@ use Rattle.executor_laws.specs.Cancels.{is_needed}
 use Rattle.executor_laws.specs.TaskWords.{word_after}
 use Rattle.executor_laws.proofs.CancelSteps.{cancels_touch_one_task}
 use Rattle.executor_laws.proofs.CancelNeeds.{only_calls_sweep}
-use Rattle.worker_pool.specs.Books.{history_for}
+use Rattle.worker_pool.specs.Books.{history_for, is_purge}
 use Rattle.worker_pool.specs.Applies.{SaysYes, is_in_way}
 use Rattle.worker_pool.specs.own.Moves.{moves_made, CanMove, WasMet}
 use Rattle.worker_pool.specs.own.Steps.{Agrees, Keeps, IsKept, past_in, Comes, need_in, OnlyOwnGrows, Notes, MovesOn, ends_of}
-use Rattle.worker_pool.proofs.Bools.{or_true}
+use Rattle.worker_pool.proofs.Bools.{or_true, any_append}
 use Rattle.worker_pool.proofs.Steps.{longer, state_at, needs, stepped, can_move, noted}
 
 -- what is so of some calls and workers is so of the same ones
@@ -58,7 +58,7 @@ keeps_more m next_m v next_v happened items lines next_lines y kept may steps mo
     let past = history_for calls workers happened in
     let all = after_agrees calls workers past kept.means in
     let view : view_of_state calls (state_of m) ≡ Rattle.executor_model.specs.Histories.view_of_history calls past = ap (view_of_state calls) kept.stands ∙ all.view in
-    let may_now = may_from calls (happenings past) y m.made m.moment may (ap (λ (x : View). x.made) view) (ap (λ (x : View). x.moment) view) in
+    let may_now = may_from calls (happenings past) y m.made m.moment may.0 (ap (λ (x : View). x.made) view) (ap (λ (x : View). x.moment) view) in
     let con : ContinuesWith m next_m lines next_lines (y ∷ []) past = step_continues m next_m lines next_lines y steps past kept.means kept.stands may_now in
     let turned : reverse items ≡ y ∷ reverse happened = ap reverse more ∙ reverse-append happened (y ∷ []) in
     let same : history_for calls workers items ≡ longer calls workers past y = ap (history_from calls workers []) turned in
@@ -66,6 +66,7 @@ keeps_more m next_m v next_v happened items lines next_lines y kept may steps mo
     (record {
       orderly = kept.orderly;
       means = subst (IsHistoryOf calls workers) (sym same) con.means;
+      unpurged = ap (list_any is_purge) more ∙ (any_append is_purge happened (y ∷ []) ∙ (λ i. kept.unpurged i || (may.1 i || false)));
       stands = stood (longer calls workers past y) (history_for calls workers items) con.stands (sym same);
       written = con.given ∙ (ap (λ xs. xs ++ con.added) kept.written ∙ (sym con.spoken ∙ ap (lines_of calls) (sym same)));
       agrees = subst (λ p. Agrees calls workers p next_v) (sym same) agrees;
@@ -151,7 +152,7 @@ notes_one m next_m v next_v happened items lines next_lines k kept was steps mor
     let ends : (j : ℕ) → is_end j (ends_of next_m) ≡ (is_end j (ends_of m) && not (k == j)) = λ j.
     at h.Call (λ r. is_end j r.ends) ∙ (touches.ends h.Call j ∙ ap (λ x. is_end j (reply_of calls workers x h.Call).ends && not (k == j)) (sym kept.stands))
     in (
-      keeps_more m next_m v next_v happened items lines next_lines (h.Cancel k) kept tt steps more note.agrees,
+      keeps_more m next_m v next_v happened items lines next_lines (h.Cancel k) kept (tt, refl) steps more note.agrees,
       record {
         only = record {
           same = record { calls = steps.calls; workers = steps.workers; taken = taken; limit = steps.limit };
@@ -180,7 +181,7 @@ events_sweep_nothing m y event is = only_calls_sweep m.calls (workers_of m) (sta
 -- what may come may come after cancels were noted
 pub still_comes : (m next_m : CoreView) (y : Happening) → next_m.calls ≡ m.calls → next_m.made ≡ m.made → next_m.moment ≡ m.moment → Comes m y → Comes next_m y
 still_comes m next_m y calls made moment may =
-    subst (λ c. MayFrom c next_m.made next_m.moment y) (sym calls) (subst (λ k. MayFrom m.calls k next_m.moment y) (sym made) (subst (λ t. MayFrom m.calls m.made t y) (sym moment) may))
+    (subst (λ c. MayFrom c next_m.made next_m.moment y) (sym calls) (subst (λ k. MayFrom m.calls k next_m.moment y) (sym made) (subst (λ t. MayFrom m.calls m.made t y) (sym moment) may.0)), may.1)
 
 -- where the calls and the moment are once a happening came
 pub moves_on : (m next_m : CoreView) (lines next_lines : List Line) (y : Happening) → Steps m next_m lines next_lines (y ∷ []) → MovesOn m next_m y

@@ -40,6 +40,7 @@ pub looked : (m : CoreView) (v : CoreSeatView) (happened : List Happening) (line
 looked m v happened lines k w kept low meets only = record {
   orderly = kept.orderly;
   means = kept.means;
+  unpurged = kept.unpurged;
   stands = kept.stands;
   written = kept.written;
   agrees = record {

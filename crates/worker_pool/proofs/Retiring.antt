@@ -160,6 +160,7 @@ pub kept_joined : (m : CoreView) (v : CoreSeatView) (handle : HandleSeatView) (h
 kept_joined m v handle happened lines kept = record {
   orderly = kept.orderly;
   means = kept.means;
+  unpurged = kept.unpurged;
   stands = kept.stands;
   written = kept.written;
   agrees = record { count = kept.agrees.count; each = kept.agrees.each; cancelled = kept.agrees.cancelled };

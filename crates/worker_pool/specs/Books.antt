@@ -16,6 +16,7 @@ use Rattle.executor_model.specs.declared.types.Outcome.TheVariants as o
 use Rattle.executor_model.specs.declared.types.Answer.{Answer}
 use Rattle.executor_model.specs.declared.types.Answer.TheVariants as a
 use Rattle.executor_model.specs.declared.types.Happening.{Happening}
+use Rattle.executor_model.specs.declared.types.Happening.TheVariants as h
 use Rattle.executor_model.specs.declared.types.Line.{Line}
 use Rattle.executor_model.specs.Histories.{HistoryEntry, IsHistoryOf, had_effect, is_end as stands_in, was_cancelled}
 use Rattle.executor_model.specs.Flows.{history_from, lines_of}
@@ -85,11 +86,18 @@ pub record KnowsVerdict (cells : List ℕ) (past : List HistoryEntry) (k : ℕ) 
   pub known : note.known ≡ Some (record { task = k; ending = ending })
   pub ended : EndedSo k ending past
 
+-- a happening is a purge, for which a live executor alone is asked
+abbrev pub is_purge : Happening → Bool
+is_purge h.Purge = true
+is_purge _ = false
+
 -- what a book keeps, with these cells
 pub record IsBook (cells : List ℕ) (b : BookView) : Type 0 where
   pub orderly : IsPlanned b.core.calls
   -- what happened is a history of the plan, with the one list of answers
   pub means : IsHistoryOf b.core.calls (workers_of b.core) (past_of b)
+  -- nothing was purged: a plan has no purge, and a pool asks for none
+  pub unpurged : list_any is_purge b.happened ≡ false
   -- the core stands after it
   pub stands : Stands b.core (past_of b)
   -- the lines are those of that history

@@ -1,6 +1,6 @@
 -- What stays so of a book while one happening after the other comes.
 use Rattle.std.specs.Prelude.{◌≡◌, ℕ, ◌+◌, ◌<◌, ◌≤◌, ◌||◌, ◌&&◌, ◌==◌, not, if◌then◌else◌, true, false, IsTrue, List, ◌∷◌, ◌++◌, length, ◌⊎◌, slice_get}
-use Rattle.std.specs.List.{All}
+use Rattle.std.specs.List.{All, list_any}
 use Rattle.task_word.specs.Words.{marked}
 use Rattle.task_word.specs.Views.{entry}
 use Rattle.task_word.specs.declared.views.CoreSeatView.{CoreSeatView}
@@ -19,7 +19,7 @@ use Rattle.executor_model.specs.State.{State, after, reply_of}
 use Rattle.executor_core.specs.CoreView.{CoreView, workers_of, state_of, room_of, IsCounted}
 use Rattle.executor_model.specs.Needs.{need_of}
 use Rattle.executor_laws.specs.TaskWords.{word_after}
-use Rattle.worker_pool.specs.Books.{history_for, was_outside, FitsWord}
+use Rattle.worker_pool.specs.Books.{history_for, is_purge, was_outside, FitsWord}
 use Rattle.worker_pool.specs.Applies.{calls_in, SaysYes, is_in_way, WereInWay}
 
 -- the seat's entries fit the words after a history, and who is cancelled there was cancelled by the seat or from outside
@@ -32,6 +32,7 @@ pub record Agrees (calls : List Planned) (workers : ℕ) (past : List HistoryEnt
 pub record Keeps (calls : List Planned) (workers : ℕ) (s : State) (v : CoreSeatView) (happened : List Happening) (lines : List Line) : Type 0 where
   pub orderly : IsPlanned calls
   pub means : IsHistoryOf calls workers (history_for calls workers happened)
+  pub unpurged : list_any is_purge happened ≡ false
   pub stands : s ≡ after calls workers (happenings (history_for calls workers happened))
   pub written : lines ≡ lines_of calls (history_for calls workers happened)
   pub agrees : Agrees calls workers (history_for calls workers happened) v
@@ -44,9 +45,9 @@ IsKept m v happened lines = Keeps m.calls (workers_of m) (state_of m) v happened
 abbrev pub past_in : CoreView → List Happening → List HistoryEntry
 past_in m happened = history_for m.calls (workers_of m) happened
 
--- this may happen next
+-- this may happen next, and is no purge
 abbrev pub Comes : CoreView → Happening → Type 0
-Comes m happening = MayFrom m.calls m.made m.moment happening
+Comes m happening = MayFrom m.calls m.made m.moment happening × (is_purge happening ≡ false)
 
 -- what a core needs for it
 abbrev pub need_in : CoreView → Happening → Need
