@@ -288,8 +288,8 @@ static inline timers_status timers_fixed(timers_slot *slot, uint64_t now, uint64
 }
 
 /* Cancels a task, and writes what that did (TIMERS_CANCEL_..). A task that waits is kept in the queue until a poll meets it, a
- * shutdown or a policy sweeps it, or timers_purge takes it out, unless the remove policy is set. A run that is under way goes on, and is finished as any other; no run comes after it. TIMERS_NO_TIMERS.
- * TIMERS_NO_TASK: no submission was given the number yet. */
+ * shutdown or a policy sweeps it, or timers_purge takes it out, unless the remove policy is set. A run that is under way goes on, and
+ * is finished as any other; no run comes after it. TIMERS_NO_TIMERS. TIMERS_NO_TASK: no submission was given the number yet. */
 static inline timers_status timers_cancel(timers_slot *slot, timers_ref task, uint32_t *effect) {
     return slot == NULL || effect == NULL ? (timers_status)TIMERS_NULL : timers_ref_cancel(slot, &task, effect);
 }
@@ -347,8 +347,8 @@ static inline timers_status timers_next_due(timers_slot *slot, uint64_t *due) {
 }
 
 /* Writes the moment at which the head of the queue is due, which waits or is kept: before it no poll takes a task out of the queue. A
- * program for which cancelled tasks are to leave at their own moments waits for this one. TIMERS_NO_TIMERS. TIMERS_IDLE: the queue is
- * empty. */
+ * program for which cancelled tasks are to leave at their own moments waits for this one, and polls with a free worker until that
+ * worker is idle: what is due has left then. TIMERS_NO_TIMERS. TIMERS_IDLE: the queue is empty. */
 static inline timers_status timers_head_due(timers_slot *slot, uint64_t *due) {
     return slot == NULL || due == NULL ? (timers_status)TIMERS_NULL : timers_ref_head_due(slot, due);
 }
@@ -399,7 +399,7 @@ static inline timers_status timers_ended(timers_slot *slot, size_t place, timers
  * `copied` how much: whole lines, each of which begins where TIMERS_LINE_ROOM bytes of room are left, until no line is left or no such
  * room. The lines of all calls, taken after each, are the trace that `sched check` takes beside a plan with the submissions, the policies,
  * the shutdowns and the questions, at the moments that the lines tell, as long as these are 65,536 at most, their plan is no longer than 1 MiB, which some
- * 20,000 calls fill, and the trace no longer than 64 MiB. The line to go on with is `from + copied->lines`. What stands in the
+ * 20,000 calls fill, the trace no longer than 64 MiB, and no call names a worker of 64 or above. The line to go on with is `from + copied->lines`. What stands in the
  * buffer behind the text is lost. TIMERS_NO_TIMERS. TIMERS_NUMBER: nothing is written to the buffer. `out` may be NULL where room is 0. */
 static inline timers_status timers_text(timers_slot *slot, size_t from, uint8_t *out, size_t room, timers_copied *copied) {
     uint8_t none = 0;

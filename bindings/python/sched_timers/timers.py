@@ -82,7 +82,8 @@ class Timers(Lined):
 
     The texts of all calls, taken by `text` after each, are the trace that `sched check` takes
     beside a plan with the submissions, the policies, the shutdowns and the questions, at the
-    moments that the lines tell, as long as these are 65,536 at most.
+    moments that the lines tell, as long as these are 65,536 at most, and no call names a worker
+    of 64 or above.
     """
 
     _errors = ERRORS
@@ -121,9 +122,9 @@ class Timers(Lined):
         return self._submit("fixed", now, (first, delay), data)
 
     def cancel(self, task: TaskRef) -> Effect:
-        """Cancels a task. One that waits is kept in the queue until a poll meets it, or a shutdown
-        sweeps it, unless the remove policy is set. A run that is under way goes on, and is
-        finished as any other; no run comes after it."""
+        """Cancels a task. One that waits is kept in the queue until a poll meets it, a shutdown
+        or a policy sweeps it, or a purge takes it out, unless the remove policy is set. A run that
+        is under way goes on, and is finished as any other; no run comes after it."""
         effect = ctypes.c_uint32()
         self._tell("cancel", _ref(task), effect)
         return Effect(effect.value)

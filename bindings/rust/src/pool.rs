@@ -127,7 +127,7 @@ impl ScheduledThreadPool {
     /// ```
     /// let pool = sched::ScheduledThreadPool::new(4)?;
     /// assert_eq!(pool.threads(), 4);
-    /// assert!(sched::ScheduledThreadPool::new(65).is_err());
+    /// assert!(sched::ScheduledThreadPool::new(256).is_err());
     /// # Ok::<(), sched::PoolError>(())
     /// ```
     pub fn new(threads: usize) -> Result<ScheduledThreadPool, PoolError> {

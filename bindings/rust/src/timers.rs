@@ -85,8 +85,8 @@ impl Timers {
     /// ```
     /// use sched::{Timers, TimersError};
     ///
-    /// assert_eq!(Timers::new(64)?.next_due(), None);
-    /// assert_eq!(Timers::new(65).err(), Some(TimersError::Workers));
+    /// assert_eq!(Timers::new(255)?.next_due(), None);
+    /// assert_eq!(Timers::new(256).err(), Some(TimersError::Workers));
     /// # Ok::<(), TimersError>(())
     /// ```
     pub fn new(workers: u32) -> Result<Timers, TimersError> {
@@ -217,8 +217,8 @@ impl Timers {
         submitted(status, task)
     }
 
-    /// Cancels a task. One that waits is kept in the queue until a poll meets it, unless the remove policy is set. A run that is
-    /// under way goes on, and is finished as any other.
+    /// Cancels a task. One that waits is kept in the queue until a poll meets it, a shutdown or a policy sweeps it, or a
+    /// purge takes it out, unless the remove policy is set. A run that is under way goes on, and is finished as any other.
     ///
     /// # Errors
     ///

@@ -19,7 +19,7 @@ but_queue (a.Ask queue running shut terminated) = a.Ask 0 running shut false
 but_queue answer = answer
 
 -- whatever happens after a purge has the answer, and ends the tasks, that it would without the purge, but for what an ask says of
--- the queue
+-- the queue, and whether the executor is terminated
 abbrev pub PurgesChangeAsksAlone : Type 0
 PurgesChangeAsksAlone = (calls : List Planned) (workers : ℕ) (s : State) (later : List Happening) (happening : Happening)
     → let with_it = reply_of calls workers (after_from calls workers (next calls workers s h.Purge) later) happening in

@@ -75,7 +75,8 @@
 //! A moment is a number of nanoseconds, at most 2^62, and so is each delay and period. No call reads a clock. A call is made at the
 //! moment that is handed in, but not before [`now`](ScheduledExecutor::now), and at least 1 ns after the last accepted clock: so a
 //! clock comes after all calls of its moment, as in a trace. [`next_due`](ScheduledExecutor::next_due) is the moment to wait for, or
-//! [`head_due`](ScheduledExecutor::head_due) where cancelled tasks are to leave the queue at their own.
+//! [`head_due`](ScheduledExecutor::head_due) where cancelled tasks are to leave the queue at their own moments: starts then, until one
+//! is idle, take out all that is due.
 //!
 //! # Order and ties
 //!

@@ -34,7 +34,7 @@
 //!
 //! The executor is that of `live_core`, and so are its calls; [`poll`](Timers::poll) and [`finish`](Timers::finish) tell it the
 //! clock first. A task that is cancelled while it waits stays in the queue, unless the policy says that it leaves, until a poll meets
-//! it, a shutdown sweeps, or a [`purge`](Timers::purge) comes. A contract sees the timers as a
+//! it, a shutdown or a policy sweeps it, or a [`purge`](Timers::purge) takes it out. A contract sees the timers as a
 //! [`TimersView`](../../specs/Timers.antt): the executor, and the data in each slot. What a call does to the executor is said as
 //! there, whatever calls and history led here (`specs/Calls.antt`).
 //!

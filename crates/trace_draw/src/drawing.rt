@@ -15,7 +15,8 @@ use std::alloc::{AllocError, Allocator};
 
 /// The picture of the lines of a trace, which stand in its order.
 ///
-/// It shows each run of which the window shows a part as one bar, each other line that the window shows as one mark, and ticks.
+/// It shows each run of which the window shows a part as one bar, each other line but a purge that the window shows as one mark,
+/// and ticks.
 /// The error is [`PictureError::Crowded`] exactly where more than `most` marks, or else more than `most` bars, would be shown; else
 /// [`PictureError::Memory`] may come.
 pub fn picture<A: Allocator + Copy>(
