@@ -17,7 +17,7 @@ mod texts;
 
 pub use calls::make_call;
 pub use cores::{event, full, happen};
-pub use live::{run as run_live, schedule};
+pub use live::{restore, run as run_live, schedule};
 pub use pictures::{draw, picture, place};
 pub use plans::{migrate, read_plan};
 pub use pools::run_pool;

@@ -1,14 +1,15 @@
 //! What an executor promises whose calls are made while it runs.
-ghost use Rattle.std.specs.Prelude.{◌≡◌, ◌+◌, IfOk, IfErr, OnOk, OnErr};
-ghost use Rattle.live_core.specs.Lives.{StaysQuiet};
+ghost use Rattle.std.specs.Prelude.{◌≡◌, ◌+◌, [], IfOk, IfErr, IsErrOf, OnOk, OnErr};
+ghost use Rattle.live_core.specs.Lives.{LiveView, StaysQuiet};
 ghost use Rattle.live_core.specs.Said.{Submits, IsSubmitError};
+ghost use Rattle.live_core.specs.Snapshots.{IsSound, IsWritten};
 ghost use Rattle.live_engine.specs.LiveRuns.{Ran};
 ghost use Rattle.sched_engine.specs.Running.{CountsReader, CountsWriter};
 ghost use Rattle.sched_time.specs.declared.timing.Timing.TheVariants as timings;
 
 use byte_ends::{Sink, Source};
 use call_journal::Journal;
-use live_core::{CallError, ScheduledExecutor, Submitted};
+use live_core::{CallError, ExecutorFrame, Image, RestoreError, ScheduledExecutor, Submitted};
 use live_engine::LiveReport;
 use sched_engine::RunError;
 use std::alloc::Allocator;
@@ -26,6 +27,23 @@ pub fn schedule<A: Allocator>(
         (λ error. IsSubmitError executor.old at timings.Once delay error) }
 {
     executor.schedule(at, delay)
+}
+
+/// [`ScheduledExecutor::restore`].
+pub fn restore<A: Allocator>(
+    alloc: A,
+    frame: &ExecutorFrame,
+    tasks: &[Image],
+    empty: &[u32],
+) -> Result<ScheduledExecutor<A>, RestoreError>
+where
+    A: Copy,
+    ensures is { IfOk result (λ e. IsWritten e frame.now tasks.now empty.now) }
+    ensures ended { IfOk result (λ e. e.ended ≡ []) }
+    ensures unsound { IsErrOf result RestoreError.Unsound
+        → ((m : LiveView) → IsSound m → IsWritten m frame.now tasks.now empty.now → ⊥) }
+{
+    ScheduledExecutor::restore(alloc, frame, tasks, empty)
 }
 
 /// [`live_engine::run`].
