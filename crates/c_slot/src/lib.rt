@@ -19,6 +19,8 @@
 //! # Memory
 //!
 //! No call of this crate takes memory or frees it.
+//!
+//! The tests stand in `word_tests`, and by the tests of `sched_c` and `delay_queue_c`.
 #![tactic(auto)]
 
 mod kept;

@@ -101,6 +101,8 @@
 //!
 //! A text is read once, up to its first other line, and that line some times more. Memory is taken only to look for words that
 //! may be meant, a few words for each, and given back. A reason borrows from the text.
+//!
+//! The tests stand in `reason_tests`.
 #![tactic(auto)]
 
 mod call_form;

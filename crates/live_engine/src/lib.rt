@@ -47,6 +47,8 @@
 //!
 //! A run takes two buffers of 64 KiB, what its executor takes, room for the lines of one answer, and the journal's calls. It takes
 //! memory only for submissions that need a slot, for longer answers than any before, and for calls that are noted: for no event.
+//!
+//! The tests stand in `live_run_tests`.
 #![tactic(auto)]
 
 mod answer_texts;

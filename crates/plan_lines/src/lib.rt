@@ -37,6 +37,8 @@
 //! # Memory and cost
 //!
 //! No memory is taken. A text is scanned once, in the time of its length.
+//!
+//! The tests stand in `reason_tests`.
 #![tactic(auto)]
 
 mod lines;

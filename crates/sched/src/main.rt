@@ -14,7 +14,7 @@
 //! sched migrate PLAN
 //! sched draw PLAN TRACE --workers N [--from T] [--to T] [--marks M]
 //! sched live --workers N [--plan FILE]
-//! sched lint PLAN [--events FILE | --trace FILE --workers N]
+//! sched lint [PLAN] [--events FILE | --trace FILE --workers N | --calls FILE] [--strict]
 //! ```
 //!
 //! PLAN is the file of the plan, and TRACE that of a trace. There are 1 to 64 workers, and a run takes at most 1 to

@@ -52,6 +52,8 @@
 //! one at a time, each with its lines given out, so of the room for lines no more is written than
 //! the lines of one call take. A text that is longer than its buffer is written as it comes. A byte of input is looked at once or twice, and again at each read while its
 //! line is not whole.
+//!
+//! The tests stand in `run_tests`.
 #![tactic(auto)]
 
 mod answering;

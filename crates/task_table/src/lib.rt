@@ -24,8 +24,8 @@
 //!
 //! The steps are those of a [`Table`], whatever keeps its tasks and its queues: [`Slots`] and [`TaskQueue`] are what it asks of
 //! these. A `TaskTable` is one with [`Seats`], which hold whole tasks and can be emptied, and with two [`NumberedQueue`]s. Its
-//! `new`, `reserve`, `release`, `seats`, `frame`, `image` and `restore` are its own. [`Table::with`] makes one of other slots and queues, as the crate
-//! `plan_table` does for the tasks of a plan, and [`stored`](Table::stored) gives them.
+//! `new`, `reserve`, `release`, `seats`, `frame`, `image` and `restore` are its own. [`Table::with`] makes one of other slots and queues, as the module
+//! `plan_table` of `executor_core` does for the tasks of a plan, and [`stored`](Table::stored) gives them.
 //!
 //! # Behaviour
 //!
@@ -81,6 +81,8 @@
 //! sweep goes over all slots, and sorts the tasks that it ends; `ask` goes over the workers, and so does `image` of a task that is
 //! run; `reserve` may move all slots; `restore` makes them, and takes a change of a heap for each task. All other calls take constant
 //! time.
+//!
+//! The tests stand in `live_tests` and `core_tests`.
 #![tactic(auto)]
 
 mod answers;

@@ -59,6 +59,8 @@
 //! for, which are at most 131,073. Each line is read once and answered once, for what the core's answer costs
 //! (see [`Core`](executor_core::Core)); one of the two errors on a worker's state looks at the workers, at most 64, as well.
 //! [`check_and_read`] takes memory for lines as they come, at least 32 bytes each.
+//!
+//! The tests stand in `check_tests`.
 #![tactic(auto)]
 
 mod busy;

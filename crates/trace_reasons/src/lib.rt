@@ -78,6 +78,8 @@
 //! number of workers, up to its break there. An executor takes its lines before the break at most six times to find lines that may
 //! be wanted, at most four, and they are checked once more with each of these, until three are told, to see whether it could stand;
 //! for that their text is copied. A reason borrows the line that stands there from the text, and owns the rest.
+//!
+//! The tests stand in `reason_tests`.
 #![tactic(auto)]
 
 mod asked;
