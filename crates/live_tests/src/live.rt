@@ -14,7 +14,7 @@ mod submissions;
 mod tables;
 mod usage;
 
-use crate::words::{Row, compare, read_row, read_rows};
+use crate::words::{Row, compare, read_rows};
 use growths::{refuse_each, refuse_firsts};
 use live_core::{MakeError, ScheduledExecutor};
 use restoring::play_restored;
@@ -33,25 +33,12 @@ fn play_rows<A: Allocator>(rt: &impl Abort, executor: &mut ScheduledExecutor<A>,
 
 /// Does the same with the rows of a case.
 fn play_text<A: Allocator>(
-    rt: &impl Abort,
+    rt: &(impl AllocGlobal + Abort),
     executor: &mut ScheduledExecutor<A>,
     case: &str,
 ) -> Result<(), Fail> {
-    for line in case.lines().skip(1) {
-        play_line(rt, executor, line)?;
-    }
-    Ok(())
-}
-
-/// Does what stands in a row, and compares what is told.
-fn play_line<A: Allocator>(
-    rt: &impl Abort,
-    executor: &mut ScheduledExecutor<A>,
-    line: &str,
-) -> Result<(), Fail> {
-    let row = read_row("", line)?;
-    let told = do_step(executor, row.step);
-    compare(rt, &row, told);
+    let rows = read_rows(rt.alloc(), case)?;
+    play_rows(rt, executor, &rows);
     Ok(())
 }
 

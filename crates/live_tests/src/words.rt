@@ -73,7 +73,7 @@ pub fn read_words(text: &str) -> Result<Words<'_>, Fail> {
 }
 
 /// A row of a case.
-pub fn read_row<'a>(case: &'a str, line: &'a str) -> Result<Row<'a>, Fail> {
+fn read_row<'a>(case: &'a str, line: &'a str) -> Result<Row<'a>, Fail> {
     let (step, told) = line.split_once(" | ").ok_or("nothing told")?;
     Ok(Row {
         case,

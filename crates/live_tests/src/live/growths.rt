@@ -5,7 +5,7 @@ use super::{play_case, play_rows};
 use crate::said::text_of_lines;
 use crate::words::{Row, Words, compare, lone};
 use executor_model::{Answer, Line};
-use live_core::{MakeError, ScheduledExecutor};
+use live_core::{LinesError, MakeError, ScheduledExecutor};
 use refusing_allocator::Refusing;
 use std::alloc::{AllocGlobal, Allocator, Global};
 use std::process::Abort;
@@ -132,8 +132,16 @@ fn lines_of<A: Allocator>(
     executor: &ScheduledExecutor<A>,
 ) -> Result<Vec<Line>, Fail> {
     let mut lines = Vec::new(alloc);
-    executor.add_lines(Answer::Clock, &mut lines)?;
+    add_lines(executor, &mut lines)?;
     Ok(lines)
+}
+
+/// Adds the lines of a clock, and of what the last call ended.
+fn add_lines<A: Allocator>(
+    executor: &ScheduledExecutor<A>,
+    lines: &mut Vec<Line>,
+) -> Result<(), LinesError> {
+    executor.add_lines(Answer::Clock, lines)
 }
 
 /// Whether memory was wanted by a step that may want it.
@@ -141,12 +149,17 @@ fn is_want(step: Words<'_>, told: Words<'_>) -> bool {
     told.word == "memory" && may_want(step.word)
 }
 
+/// The steps that may want memory.
+const GROWING: &[&str] = &["schedule", "execute", "at_rate", "with_delay", "reserve"];
+
 /// Whether a step may want memory.
 fn may_want(word: &str) -> bool {
-    matches!(
-        word,
-        "schedule" | "execute" | "at_rate" | "with_delay" | "reserve"
-    )
+    for growing in GROWING {
+        if *growing == word {
+            return true;
+        }
+    }
+    false
 }
 
 /// Each kind of submission, from no slot on, and room that is made.

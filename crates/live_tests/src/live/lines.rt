@@ -5,7 +5,7 @@ use crate::said::text_of_lines;
 use executor_model::{Answer, Line};
 use live_core::{LinesError, ScheduledExecutor};
 use refusing_allocator::Refusing;
-use std::alloc::{Allocator, Global};
+use std::alloc::{AllocGlobal, Allocator, Global};
 use std::process::Abort;
 use std::test::Fail;
 
@@ -44,7 +44,7 @@ const SAID: &str = "\
 
 /// Shuts down, at once and again, and adds the lines of each.
 fn shut_down(
-    rt: &impl Abort,
+    rt: &(impl AllocGlobal + Abort),
     executor: &mut ScheduledExecutor<Global>,
     lines: &mut Vec<Line>,
 ) -> Result<(), Fail> {
@@ -60,11 +60,19 @@ fn shut_down(
 #[test]
 fn the_lines_of_a_shutdown_name_what_it_ends(rt: HostRuntime) -> Result<(), Fail> {
     let mut executor = ScheduledExecutor::new(rt.alloc(), 1)?;
-    let mut lines = Vec::new(rt.alloc());
-    shut_down(&rt, &mut executor, &mut lines)?;
-    let text = text_of_lines(rt.alloc(), &lines)?;
-    assert!(rt; text.as_str() == SAID, "{text}");
+    let text = text_of_shutdowns(&rt, &mut executor)?;
+    assert!(rt; text.as_str() == SAID);
     Ok(())
+}
+
+/// What the lines of the shutdowns say.
+fn text_of_shutdowns(
+    rt: &(impl AllocGlobal + Abort),
+    executor: &mut ScheduledExecutor<Global>,
+) -> Result<String, Fail> {
+    let mut lines = Vec::new(rt.alloc());
+    shut_down(rt, executor, &mut lines)?;
+    text_of_lines(rt.alloc(), &lines)
 }
 
 /// Adds lines where there is no room, and then where there is.

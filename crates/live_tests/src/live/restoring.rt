@@ -7,7 +7,7 @@ use crate::words::{Row, Words, compare, read_words};
 use executor_model::Stage;
 use live_core::{ExecutorFrame, Image, RestoreError, ScheduledExecutor};
 use refusing_allocator::Refusing;
-use std::alloc::{AllocGlobal, Allocator, Global};
+use std::alloc::{AllocError, AllocGlobal, Allocator, Global};
 use std::process::Abort;
 use std::test::Fail;
 use task_table::Seat;
@@ -25,13 +25,33 @@ fn snapshot_of<A: Allocator>(
     alloc: Global,
     executor: &ScheduledExecutor<A>,
 ) -> Result<Snapshot, Fail> {
-    let mut empty = Vec::new(alloc);
-    empty.extend_from_slice(executor.empty_slots())?;
+    let empty = copied(alloc, executor.empty_slots())?;
+    let tasks = images_of(alloc, executor)?;
     Ok(Snapshot {
-        frame: executor.frame(),
-        tasks: executor.images(alloc)?,
+        frame: frame_of(executor),
+        tasks,
         empty,
     })
+}
+
+/// These slots, in memory of their own.
+fn copied(alloc: Global, slots: &[u32]) -> Result<Vec<u32>, AllocError> {
+    let mut all = Vec::new(alloc);
+    all.extend_from_slice(slots)?;
+    Ok(all)
+}
+
+/// What is written of the tasks of this one.
+fn images_of<A: Allocator>(
+    alloc: Global,
+    executor: &ScheduledExecutor<A>,
+) -> Result<Vec<Image>, AllocError> {
+    executor.images(alloc)
+}
+
+/// What is written beside them.
+fn frame_of<A: Allocator>(executor: &ScheduledExecutor<A>) -> ExecutorFrame {
+    executor.frame()
 }
 
 /// The executor that is made of it.
