@@ -1,0 +1,5 @@
+pub mod Frames
+pub mod Tearing
+pub mod Rests
+pub mod Reading
+pub mod One

@@ -1,0 +1,10 @@
+pub use Rattle.sqlite_disk.specs.Disk
+pub use Rattle.sqlite_disk.specs.Digest
+pub use Rattle.sqlite_disk.specs.Refusal
+pub mod Groups
+pub mod Finding
+pub mod Fronts
+pub mod Halves
+pub mod Openings
+pub mod Resting
+pub mod Standing
