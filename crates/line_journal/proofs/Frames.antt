@@ -1,9 +1,9 @@
 -- Frames: their bytes are no zeros, and the first ones tell the length.
-use Rattle.std.proofs.Common.{◌≡◌, ◌≢◌, ◌⊎◌, ℕ, zero, suc, ◌+◌, ◌/◌, ◌%◌, ◌<◌, ◌≤◌, List, [], ◌∷◌, ◌++◌, length, refl, ap, sym, ◌∙◌, subst, inl, inr, arith, length-append, append_assoc, take, ◌-◌}
+use Rattle.std.proofs.Common.{◌≡◌, ◌≢◌, ◌⊎◌, ℕ, zero, suc, ◌+◌, ◌*◌, ◌/◌, ◌%◌, ◌<◌, ◌≤◌, List, [], ◌∷◌, ◌++◌, length, refl, ap, sym, ◌∙◌, subst, inl, inr, arith, length-append, append_assoc, take, ◌-◌}
 use Rattle.std.specs.Prelude.{slice_index, slice_set}
 use Rattle.std.proofs.lemmas.List.{take_more_set, length-set}
 use Rattle.sqlite_disk.specs.Digest.{digest}
-use Rattle.line_journal.specs.Groups.{sevens, frame, IsGroup}
+use Rattle.line_journal.specs.Groups.{sevens, frame, length_told, IsGroup}
 
 pub length-sevens : (k n : ℕ) → length (sevens k n) ≡ k
 length-sevens zero n = refl
@@ -39,6 +39,16 @@ told_alike m n few_m few_n first second third = omega (arith, first, second, thi
 -- frames that begin alike are of groups of one length
 pub same_length : (g h : List ℕ) → IsGroup g → IsGroup h → ((i : ℕ) → i < 3 → slice_index (frame g) i ≡ slice_index (frame h) i) → length g ≡ length h
 same_length g h is_g is_h same = told_alike (length g) (length h) is_g.few is_h.few (same 0 (omega arith)) (same 1 (omega arith)) (same 2 (omega arith))
+
+told : (a b c n : ℕ) → n ≤ 65536 → a ≡ 128 + n % 128 → b ≡ 128 + n / 128 % 128 → c ≡ 128 + n / 128 / 128 % 128 → a % 128 + b % 128 * 128 + c % 128 * 16384 ≡ n
+told a b c n few first second third = omega (arith, few, first, second, third)
+
+-- the first bytes of a frame tell its group's length
+pub told_of : (g : List ℕ) (a b c : ℕ) → IsGroup g → a ≡ slice_index (frame g) 0 → b ≡ slice_index (frame g) 1 → c ≡ slice_index (frame g) 2 → length_told a b c ≡ length g
+told_of g a b c is first second third = told a b c (length g) is.few first second third
+
+pub more_than : (i n : ℕ) → i < 13 → i < 13 + n
+more_than i n low = omega (arith, low)
 
 -- one byte more of a number is written
 pub sevens_on : (bytes : List ℕ) (i left number : ℕ) → i < length bytes → take i bytes ++ sevens (length bytes - i) left ≡ sevens (length bytes) number

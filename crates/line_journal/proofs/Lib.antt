@@ -3,3 +3,11 @@ pub mod Tearing
 pub mod Rests
 pub mod Reading
 pub mod One
+pub mod Unique
+pub mod Gates
+pub mod Keeping
+pub mod Choosing
+pub mod Sums
+pub mod Staying
+pub mod History
+pub mod Placing

@@ -5,8 +5,9 @@ use Rattle.std.specs.List.{AllByRecursion}
 use Rattle.std.proofs.lemmas.List.{get_or_append_left, get_or-append-add}
 use Rattle.sqlite_disk.specs.Disk.{Holds}
 use Rattle.sqlite_disk.specs.Digest.{digest}
-use Rattle.line_journal.specs.Groups.{sevens, frame, frames, IsGroup, NoGroup, Keeps}
+use Rattle.line_journal.specs.Groups.{sevens, frame, frames, IsGroup, Ends, Keeps}
 use Rattle.line_journal.proofs.Frames.{length-sevens, length-frame, same_length}
+use Rattle.line_journal.proofs.Tearing.{ends_none}
 
 -- the front of a text that stands somewhere, and what is behind it
 pub holds_front : (file : List ℕ) (at : ℕ) (xs ys : List ℕ) → Holds file at (xs ++ ys) → Holds file at xs
@@ -55,17 +56,17 @@ tail_of file start g groups keeps =
     let end : start + length (frame g ++ frames groups) ≡ start + length (frame g) + length (frames groups) = omega (arith, length-append (frame g) (frames groups)) in
     record {
       front = holds_behind file start (frame g) (frames groups) keeps.front;
-      last = subst (λ (e : ℕ). NoGroup file e) end keeps.last;
+      last = subst (λ (e : ℕ). Ends file e) end keeps.last;
     }
 
 pub same_groups : (file : List ℕ) (start : ℕ) (gs hs : List (List ℕ)) → AllByRecursion IsGroup gs → AllByRecursion IsGroup hs → Keeps file start gs → Keeps file start hs → gs ≡ hs
 same_groups file start [] [] all_g all_h keeps_g keeps_h = refl
 same_groups file start [] (h ∷ hs) all_g all_h keeps_g keeps_h =
     let here : start + 0 ≡ start = omega arith in
-    absurd (keeps_g.last h all_h.0 (subst (λ (p : ℕ). Holds file p (frame h)) (sym here) (holds_front file start (frame h) (frames hs) keeps_h.front)))
+    absurd (ends_none file (start + 0) keeps_g.last h all_h.0 (subst (λ (p : ℕ). Holds file p (frame h)) (sym here) (holds_front file start (frame h) (frames hs) keeps_h.front)))
 same_groups file start (g ∷ gs) [] all_g all_h keeps_g keeps_h =
     let here : start + 0 ≡ start = omega arith in
-    absurd (keeps_h.last g all_g.0 (subst (λ (p : ℕ). Holds file p (frame g)) (sym here) (holds_front file start (frame g) (frames gs) keeps_g.front)))
+    absurd (ends_none file (start + 0) keeps_h.last g all_g.0 (subst (λ (p : ℕ). Holds file p (frame g)) (sym here) (holds_front file start (frame g) (frames gs) keeps_g.front)))
 same_groups file start (g ∷ gs) (h ∷ hs) all_g all_h keeps_g keeps_h =
     let first : g ≡ h = same_group file start g h all_g.0 all_h.0 (holds_front file start (frame g) (frames gs) keeps_g.front) (holds_front file start (frame h) (frames hs) keeps_h.front) in
     let next : Keeps file (start + length (frame g)) hs = subst (λ (x : List ℕ). Keeps file (start + length (frame x)) hs) (sym first) (tail_of file start h hs keeps_h) in

@@ -4,7 +4,7 @@ use Rattle.std.specs.Prelude.{slice_index}
 use Rattle.std.proofs.lemmas.Bool.{cases_lt}
 use Rattle.sqlite_disk.specs.Disk.{Holds, Torn, Mixed, Only, Follows}
 use Rattle.line_journal.specs.Groups.{frame, frames, IsGroup, Keeps, HasZeros}
-use Rattle.line_journal.specs.Resting.{IsAtRest, KeepsBelow, IsBlank}
+use Rattle.line_journal.specs.Resting.{IsAtRest, KeepsBelow, SameBelow, Blanks, IsBlank}
 use Rattle.line_journal.proofs.Frames.{length-frame}
 use Rattle.line_journal.proofs.Tearing.{length-frames_last, whole, all_or_nothing, kept_below, mixed_of_put}
 
@@ -19,6 +19,9 @@ below_on place at old mid new low first second = record {
   long = omega (arith, first.long, second.long);
   below = λ i there less. second.below i (omega (arith, there, first.long)) (omega (arith, less, low)) ∙ first.below i there less;
 }
+
+pub below_less : (place at : ℕ) (old new : List ℕ) → place ≤ at → KeepsBelow at old new → KeepsBelow place old new
+below_less place at old new low kept = record { long = kept.long; below = λ i there less. kept.below i there (omega (arith, less, low)) }
 
 -- nothing is blank behind the end
 pub blank_none : (file : List ℕ) (place : ℕ) → IsBlank file place place
@@ -111,3 +114,51 @@ piece_blank from at bytes mid new blank torn held zeros i low less = elim (cases
       let place : at + (i - at) ≡ i = omega (arith, past) in
       (omega (arith, less, held.within), ap (λ (j : ℕ). slice_index new j) (sym place) ∙ (held.each (i - at) there ∙ zeros (i - at) there))
 ]
+
+pub blanks_self : (place : ℕ) (file : List ℕ) → Blanks place file file
+blanks_self place file = record { kept = below_self place file; each = λ i there past. inl refl }
+
+-- zeros that are torn
+blanks_on : (from at : ℕ) (bytes old mid new : List ℕ) → from ≤ at → ((i : ℕ) → i < length bytes → slice_index bytes i ≡ 0) → Blanks from old mid → Mixed at bytes mid new → Blanks from old new
+blanks_on from at bytes old mid new low zeros first mixed = record {
+  kept = piece_below from at (length bytes) old mid new low first.kept mixed.torn;
+  each = λ i there past.
+      let in_mid : i < length mid = omega (arith, there, first.kept.long) in
+      let step : (slice_index new i ≡ slice_index mid i) ⊎ (slice_index new i ≡ 0) = elim (cases_lt i at) [
+        | inl less ↦ inl (mixed.torn.below i in_mid less)
+        | inr behind ↦ elim (cases_lt i (at + length bytes)) [
+            | inr far ↦ inl (mixed.torn.above i in_mid far)
+            | inl near ↦
+                let within : i - at < length bytes = omega (arith, behind, near) in
+                let place : at + (i - at) ≡ i = omega (arith, behind) in
+                elim (mixed.each (i - at) within (omega (arith, place, in_mid))) [
+                  | inl same ↦ inl (subst (λ (j : ℕ). slice_index new j ≡ slice_index mid j) place same)
+                  | inr put ↦ inr (subst (λ (j : ℕ). slice_index new j ≡ 0) place (put ∙ zeros (i - at) within))
+                ]
+          ]
+      ] in
+      elim step [
+        | inr put ↦ inr put
+        | inl same ↦ elim (first.each i there past) [
+            | inl was ↦ inl (same ∙ was)
+            | inr put ↦ inr (same ∙ put)
+          ]
+      ];
+}
+
+pub piece_blanks : (from at : ℕ) (bytes : List ℕ) (first before after : List ℕ → Type 0) → from ≤ at → ((i : ℕ) → i < length bytes → slice_index bytes i ≡ 0)
+    → Follows (Blanks from) first before → Follows (Mixed at bytes) before after → Follows (Blanks from) first after
+piece_blanks from at bytes first before after low zeros one two c left =
+    let was = two c left in
+    let first_one = one was.0 was.1 in
+    (first_one.0, first_one.1, blanks_on from at bytes first_one.0 was.0 c low zeros first_one.2 was.2)
+
+-- the front of a file stays where a group is put behind more zeros
+pub both_below : (end limit n : ℕ) (old mid new : List ℕ) → end ≤ limit → KeepsBelow limit old mid → Torn end n mid new → KeepsBelow end old new
+both_below end limit n old mid new low below torn = record {
+  long = omega (arith, below.long, torn.no_shorter);
+  below = λ i there less. torn.below i (omega (arith, there, below.long)) less ∙ below.below i there (omega (arith, less, low));
+}
+
+pub same_of_below : (place : ℕ) (old new : List ℕ) → KeepsBelow place old new → SameBelow place old new
+same_of_below place old new kept i there low = (omega (arith, there, kept.long), kept.below i there low)

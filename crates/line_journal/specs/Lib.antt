@@ -4,7 +4,10 @@ pub use Rattle.sqlite_disk.specs.Refusal
 pub mod Groups
 pub mod Finding
 pub mod Fronts
+pub mod Parts
+pub mod Gates
 pub mod Halves
 pub mod Openings
 pub mod Resting
+pub mod Runs
 pub mod Standing

@@ -1,6 +1,6 @@
 //! The calls of a disk, with what they meet as an error of the journal.
-ghost use Rattle.std.specs.Prelude.{◌≡◌, ◌<◌, false, length, is_ok, IsErrOf, OnOk, IsTrue};
-ghost use Rattle.sqlite_disk.specs.Disk.{Holds};
+ghost use Rattle.std.specs.Prelude.{◌≡◌, ℕ, ◌<◌, false, List, length, is_ok, IsErrOf, IfOk, OnOk, IsTrue};
+ghost use Rattle.sqlite_disk.specs.Disk.{Holds, Cut, Follows, Only};
 ghost use Rattle.sqlite_disk.specs.Refusal.{finds_no_room};
 ghost use Rattle.line_journal.specs.declared.error.JournalError.TheVariants.{DiskFull, NotWritten};
 
@@ -9,11 +9,19 @@ use sqlite_disk::{Disk, is_no_room};
 use std::io;
 
 /// How many bytes the file has.
-pub fn length<D: Disk>(disk: &mut D) -> Result<usize, JournalError> {
+pub fn length<D: Disk>(disk: &mut D) -> Result<usize, JournalError>
+    ensures len { IfOk result (λ n. IsTrue (D.Disk.is_clean disk.new) → n ≡ length (D.Disk.seen disk.old)) }
+    ensures seen { D.Disk.seen disk.new ≡ D.Disk.seen disk.old }
+    ensures clean { IsTrue (D.Disk.is_clean disk.new) → IsTrue (D.Disk.is_clean disk.old) }
+    ensures leaves { (c : List ℕ) → D.Disk.may_leave disk.new c → D.Disk.may_leave disk.old c }
+{
     if !disk.may_be_used() {
         return Err(JournalError::NotRead);
     }
-    disk.len().map_err(|_| JournalError::NotRead)
+    match disk.len() {
+        Ok(n) => Ok(n),
+        Err(_) => Err(JournalError::NotRead),
+    }
 }
 
 /// Fills a buffer with the bytes from a place on.
@@ -21,6 +29,7 @@ pub fn read<D: Disk>(disk: &mut D, at: usize, buffer: &mut [u8]) -> Result<(), J
     ensures read { OnOk result (IsTrue (D.Disk.is_clean disk.new) → 0 < length buffer.old → Holds (D.Disk.seen disk.old) at buffer.new) }
     ensures seen { D.Disk.seen disk.new ≡ D.Disk.seen disk.old }
     ensures clean { IsTrue (D.Disk.is_clean disk.new) → IsTrue (D.Disk.is_clean disk.old) }
+    ensures leaves { (c : List ℕ) → D.Disk.may_leave disk.new c → D.Disk.may_leave disk.old c }
 {
     if !disk.may_be_used() {
         return Err(JournalError::NotRead);
@@ -31,28 +40,28 @@ pub fn read<D: Disk>(disk: &mut D, at: usize, buffer: &mut [u8]) -> Result<(), J
     }
 }
 
-/// Writes bytes at a place.
-pub fn write<D: Disk>(disk: &mut D, at: usize, bytes: &[u8]) -> Result<(), JournalError> {
-    if !disk.may_be_used() {
-        return Err(JournalError::NotWritten);
-    }
-    told(disk.write_at(at, bytes))
+/// Makes durable what was written.
+pub fn sync<D: Disk>(disk: &mut D) -> Result<(), JournalError>
+    requires { IsTrue (D.Disk.is_usable disk.old) }
+    ensures durable { OnOk result (Only (D.Disk.seen disk.old) (D.Disk.may_leave disk.new)) }
+    ensures usable { OnOk result (IsTrue (D.Disk.is_usable disk.new)) }
+    ensures seen { D.Disk.seen disk.new ≡ D.Disk.seen disk.old }
+    ensures clean { D.Disk.is_clean disk.new ≡ D.Disk.is_clean disk.old }
+    ensures leaves { (c : List ℕ) → D.Disk.may_leave disk.new c → D.Disk.may_leave disk.old c }
+{
+    told(disk.sync())
 }
 
 /// Cuts the file to a length.
-pub fn cut<D: Disk>(disk: &mut D, len: usize) -> Result<(), JournalError> {
-    if !disk.may_be_used() {
-        return Err(JournalError::NotWritten);
-    }
+pub fn cut<D: Disk>(disk: &mut D, len: usize) -> Result<(), JournalError>
+    requires { IsTrue (D.Disk.is_usable disk.old) }
+    ensures len { OnOk result (length (D.Disk.seen disk.new) ≡ len) }
+    ensures others { Cut len (D.Disk.seen disk.old) (D.Disk.seen disk.new) }
+    ensures crash { Follows (Cut len) (D.Disk.may_leave disk.old) (D.Disk.may_leave disk.new) }
+    ensures usable { IsTrue (D.Disk.is_usable disk.new) }
+    ensures clean { D.Disk.is_clean disk.new ≡ D.Disk.is_clean disk.old }
+{
     told(disk.set_len(len))
-}
-
-/// Makes durable what was written.
-pub fn sync<D: Disk>(disk: &mut D) -> Result<(), JournalError> {
-    if !disk.may_be_used() {
-        return Err(JournalError::NotWritten);
-    }
-    told(disk.sync())
 }
 
 /// What a call that writes met.

@@ -1,19 +1,24 @@
-//! A file as a whole: reading one, and making one count or not.
-ghost use Rattle.std.specs.Prelude.{◌≡◌, ◌+◌, ◌≤◌, ◌^◌, IfOk, IfSome};
-ghost use Rattle.line_journal.specs.Halves.{IsInFile};
+//! A file as a whole, read from end to end.
+ghost use Rattle.std.specs.Prelude.{◌≡◌, ℕ, ◌+◌, ◌≤◌, List, Some, length, IfOk, IfSome, IsTrue};
+ghost use Rattle.sqlite_disk.specs.Disk.{Holds};
+ghost use Rattle.line_journal.specs.Fronts.{front_bytes, FitsFront};
+ghost use Rattle.line_journal.specs.Halves.{IsInFile, IsReadAs};
 
-use crate::calls::{cut, length, read, sync, write};
+use crate::calls::{length, read};
 use crate::error::JournalError;
 use crate::half::Half;
-use crate::head::{FRONT, Front, Head, MOST_FILE, front_of, read_front};
-use crate::tail::{AHEAD, put_zeros};
-use crate::zone::{Groups, has_group_behind, scan};
+use crate::head::{FRONT, Front, Head, MOST_FILE, read_front};
+use crate::zone::{has_group_behind, scan};
 use sqlite_disk::Disk;
 use std::hash::{DefaultHasher, Hasher};
 
 /// Reads a file from end to end. `None` if it does not count.
 pub fn read_half<D: Disk>(disk: &mut D, buffer: &mut [u8]) -> Result<Option<Half>, JournalError>
-    ensures { IfOk result (λ found. IfSome found IsInFile) }
+    ensures within { IfOk result (λ found. IfSome found IsInFile) }
+    ensures found { IfOk result (λ found. IsTrue (D.Disk.is_clean disk.new) → IsReadAs (D.Disk.seen disk.old) found) }
+    ensures seen { D.Disk.seen disk.new ≡ D.Disk.seen disk.old }
+    ensures clean { IsTrue (D.Disk.is_clean disk.new) → IsTrue (D.Disk.is_clean disk.old) }
+    ensures leaves { (c : List ℕ) → D.Disk.may_leave disk.new c → D.Disk.may_leave disk.old c }
 {
     let len = length(disk)?;
     if len > MOST_FILE {
@@ -35,7 +40,11 @@ fn read_groups<D: Disk>(
 ) -> Result<Half, JournalError>
     requires text { FRONT + head.now.text ≤ len }
     requires len { len ≤ MOST_FILE }
-    ensures { IfOk result IsInFile }
+    ensures within { IfOk result IsInFile }
+    ensures found { IfOk result (λ half. IsTrue (D.Disk.is_clean disk.new) → len ≡ length (D.Disk.seen disk.old) → Holds (D.Disk.seen disk.old) 0 (front_bytes head.now) → FitsFront head.now → IsReadAs (D.Disk.seen disk.old) (Some half)) }
+    ensures seen { D.Disk.seen disk.new ≡ D.Disk.seen disk.old }
+    ensures clean { IsTrue (D.Disk.is_clean disk.new) → IsTrue (D.Disk.is_clean disk.old) }
+    ensures leaves { (c : List ℕ) → D.Disk.may_leave disk.new c → D.Disk.may_leave disk.old c }
 {
     if sum_of_text(disk, head.text, buffer)? != head.sum {
         return Err(JournalError::Broken(head.covers));
@@ -63,6 +72,9 @@ fn sum_of_text<D: Disk>(
     buffer: &mut [u8],
 ) -> Result<u64, JournalError>
     requires { bytes ≤ MOST_FILE }
+    ensures seen { D.Disk.seen disk.new ≡ D.Disk.seen disk.old }
+    ensures clean { IsTrue (D.Disk.is_clean disk.new) → IsTrue (D.Disk.is_clean disk.old) }
+    ensures leaves { (c : List ℕ) → D.Disk.may_leave disk.new c → D.Disk.may_leave disk.old c }
 {
     let mut sum = DefaultHasher::new();
     let mut at = 0;
@@ -76,32 +88,4 @@ fn sum_of_text<D: Disk>(
         at += n;
     }
     Ok(sum.finish())
-}
-
-/// Makes a file one that does not count, durably, and lets go of what it has.
-pub fn shut<D: Disk>(disk: &mut D) -> Result<(), JournalError> {
-    write(disk, 0, &[0])?;
-    sync(disk)?;
-    cut(disk, 1)
-}
-
-/// Makes a file count, durably: one that is shut, and has a snapshot's text behind its front. No line stands behind it then.
-pub fn unshut<D: Disk>(disk: &mut D, head: &Head) -> Result<Half, JournalError>
-    requires { head.now.text ≤ MOST_FILE }
-    ensures { IfOk result IsInFile }
-{
-    let end = FRONT + head.text;
-    let front = front_of(head);
-    if !disk.may_be_used() {
-        return Err(JournalError::NotWritten);
-    }
-    put_zeros(disk, end, end + AHEAD)?;
-    write(disk, 1, &front[1..])?;
-    sync(disk)?;
-    write(disk, 0, &front[..1])?;
-    sync(disk)?;
-    Ok(Half {
-        head: *head,
-        groups: Groups { end, lines: 0 },
-    })
 }

@@ -1,5 +1,6 @@
 //! A group of lines as it stands on the disk: a head with its length and sum, and then its bytes. None of them is a zero.
-ghost use Rattle.std.specs.Prelude.{◌≡◌, ◌≢◌, ◌+◌, ◌*◌, ◌%◌, ◌<◌, ◌≤◌, ◌++◌, ℕ, IsTrue, false, length, slice_index};
+ghost use Rattle.std.specs.Prelude.{◌≡◌, ◌≢◌, ◌+◌, ◌*◌, ◌%◌, ◌<◌, ◌≤◌, ◌++◌, ℕ, IsTrue, false, ◌==◌, length, slice_index};
+ghost use Rattle.std.specs.List.{count_by};
 ghost use Rattle.sqlite_disk.specs.Digest.{digest};
 ghost use Rattle.line_journal.specs.Groups.{sevens, IsGroup};
 
@@ -34,7 +35,7 @@ pub fn is_head(head: &[u8], group: &[u8]) -> bool
 }
 
 /// Writes a number into these bytes, seven bits into each.
-fn put_sevens(bytes: &mut [u8], number: u64)
+pub fn put_sevens(bytes: &mut [u8], number: u64)
     ensures { bytes.new ≡ sevens (length bytes.old) number }
 {
     let mut left = number;
@@ -76,7 +77,7 @@ pub fn has_zero(bytes: &[u8]) -> bool
 
 /// How many lines these bytes have: their newlines.
 pub fn lines_in(bytes: &[u8]) -> usize
-    ensures { result ≤ length bytes.now }
+    ensures { result ≡ count_by (λ byte. byte == 10) bytes.now }
 {
     bytes.iter().filter(|byte| **byte == b'\n').count()
 }

@@ -1,5 +1,5 @@
 //! One of the two files: a snapshot, and the lines behind it.
-ghost use Rattle.std.specs.Prelude.{◌≡◌, ◌+◌};
+ghost use Rattle.std.specs.Prelude.{◌≡◌, ◌+◌, ◌-◌, ◌^◌, min};
 
 use crate::head::{FRONT, Head};
 use crate::zone::Groups;
@@ -15,7 +15,9 @@ impl Half {
     ghost use Rattle.line_journal.specs.Halves.{IsInFile};
 
     /// How many lines there are up to the last one of this file.
-    pub fn lines(&self) -> u64 {
+    pub fn lines(&self) -> u64
+        ensures { result ≡ min (self.now.head.covers + self.now.groups.lines) (2 ^ 64 - 1) }
+    {
         self.head.covers.saturating_add(self.groups.lines)
     }
 

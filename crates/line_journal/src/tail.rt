@@ -1,8 +1,9 @@
 //! What is written behind the groups of a file: zeros, and the next group into them.
 ghost use Rattle.std.specs.Prelude.{◌≡◌, ◌⊎◌, ℕ, ◌+◌, ◌<◌, ◌≤◌, ◌^◌, List, [], ◌∷◌, ◌++◌, length, IfOk, OnOk, IsTrue};
 ghost use Rattle.sqlite_disk.specs.Disk.{Holds, Torn, Mixed, Only, Follows};
-ghost use Rattle.line_journal.specs.Groups.{frame, Keeps, IsGroup};
-ghost use Rattle.line_journal.specs.Resting.{IsAtRest, IsBlank, KeepsBelow};
+ghost use Rattle.line_journal.specs.Groups.{frame, frames, Keeps, IsGroup};
+ghost use Rattle.line_journal.specs.Parts.{Part, Has};
+ghost use Rattle.line_journal.specs.Resting.{IsAtRest, IsBlank, Blanks, KeepsBelow, Mixes};
 
 use crate::calls::{cut, sync, told};
 use crate::error::JournalError;
@@ -34,6 +35,9 @@ pub fn append_group<D: Disk>(
         → IsAtRest D.Disk.seen D.Disk.may_leave disk.new start (groups ++ group.now ∷ []) (end + (13 + length group.now)) to) }
     ensures crash { IsTrue (D.Disk.is_mixing disk.old) → (start : ℕ) (groups : List (List ℕ)) → IsAtRest D.Disk.seen D.Disk.may_leave disk.old start groups end limit
         → (c : List ℕ) → D.Disk.may_leave disk.new c → Keeps c start groups ⊎ Keeps c start (groups ++ group.now ∷ []) }
+    ensures front { KeepsBelow end (D.Disk.seen disk.old) (D.Disk.seen disk.new) }
+    ensures fronts { Follows (KeepsBelow end) (D.Disk.may_leave disk.old) (D.Disk.may_leave disk.new) }
+    ensures clean { D.Disk.is_clean disk.new ≡ D.Disk.is_clean disk.old }
 {
     if limit - (end + (HEAD + group.len())) > HEAD + MOST_GROUP {
         append_here(disk, end, limit, group, buffer)
@@ -60,6 +64,9 @@ fn append_here<D: Disk>(
         → IsAtRest D.Disk.seen D.Disk.may_leave disk.new start (groups ++ group.now ∷ []) (end + (13 + length group.now)) to) }
     ensures crash { IsTrue (D.Disk.is_mixing disk.old) → (start : ℕ) (groups : List (List ℕ)) → IsAtRest D.Disk.seen D.Disk.may_leave disk.old start groups end limit
         → (c : List ℕ) → D.Disk.may_leave disk.new c → Keeps c start groups ⊎ Keeps c start (groups ++ group.now ∷ []) }
+    ensures front { KeepsBelow end (D.Disk.seen disk.old) (D.Disk.seen disk.new) }
+    ensures fronts { Follows (KeepsBelow end) (D.Disk.may_leave disk.old) (D.Disk.may_leave disk.new) }
+    ensures clean { D.Disk.is_clean disk.new ≡ D.Disk.is_clean disk.old }
 {
     put_group(disk, end, group, buffer)?;
     Ok(limit)
@@ -84,6 +91,9 @@ fn append_further<D: Disk>(
         → IsAtRest D.Disk.seen D.Disk.may_leave disk.new start (groups ++ group.now ∷ []) (end + (13 + length group.now)) to) }
     ensures crash { IsTrue (D.Disk.is_mixing disk.old) → (start : ℕ) (groups : List (List ℕ)) → IsAtRest D.Disk.seen D.Disk.may_leave disk.old start groups end limit
         → (c : List ℕ) → D.Disk.may_leave disk.new c → Keeps c start groups ⊎ Keeps c start (groups ++ group.now ∷ []) }
+    ensures front { KeepsBelow end (D.Disk.seen disk.old) (D.Disk.seen disk.new) }
+    ensures fronts { Follows (KeepsBelow end) (D.Disk.may_leave disk.old) (D.Disk.may_leave disk.new) }
+    ensures clean { D.Disk.is_clean disk.new ≡ D.Disk.is_clean disk.old }
 {
     put_zeros(disk, limit, limit + FURTHER)?;
     put_group(disk, end, group, buffer)?;
@@ -98,6 +108,8 @@ pub fn put_zeros<D: Disk>(disk: &mut D, from: usize, to: usize) -> Result<(), Jo
     ensures below { KeepsBelow from (D.Disk.seen disk.old) (D.Disk.seen disk.new) }
     ensures crash { Follows (KeepsBelow from) (D.Disk.may_leave disk.old) (D.Disk.may_leave disk.new) }
     ensures blank { OnOk result (IsBlank (D.Disk.seen disk.new) from to) }
+    ensures blanks { Mixes D.Disk.is_mixing → Follows (Blanks from) (D.Disk.may_leave disk.old) (D.Disk.may_leave disk.new) }
+    ensures clean { D.Disk.is_clean disk.new ≡ D.Disk.is_clean disk.old }
 {
     let zeros = [0; 8192];
     let mut at = from;
@@ -110,7 +122,7 @@ pub fn put_zeros<D: Disk>(disk: &mut D, from: usize, to: usize) -> Result<(), Jo
 }
 
 /// Writes some bytes at a place.
-fn put_piece<D: Disk>(disk: &mut D, at: usize, bytes: &[u8]) -> Result<(), JournalError>
+pub fn put_piece<D: Disk>(disk: &mut D, at: usize, bytes: &[u8]) -> Result<(), JournalError>
     requires { IsTrue (D.Disk.is_usable disk.old) }
     ensures usable { IsTrue (D.Disk.is_usable disk.new) }
     ensures mixing { D.Disk.is_mixing disk.new ≡ D.Disk.is_mixing disk.old }
@@ -118,6 +130,7 @@ fn put_piece<D: Disk>(disk: &mut D, at: usize, bytes: &[u8]) -> Result<(), Journ
     ensures others { Torn at (length bytes.now) (D.Disk.seen disk.old) (D.Disk.seen disk.new) }
     ensures crash { Follows (Torn at (length bytes.now)) (D.Disk.may_leave disk.old) (D.Disk.may_leave disk.new) }
     ensures mixed { IsTrue (D.Disk.is_mixing disk.old) → at + length bytes.now < 2 ^ 64 → Follows (Mixed at bytes.now) (D.Disk.may_leave disk.old) (D.Disk.may_leave disk.new) }
+    ensures clean { D.Disk.is_clean disk.new ≡ D.Disk.is_clean disk.old }
 {
     told(disk.write_at(at, bytes))
 }
@@ -136,6 +149,8 @@ fn put_group<D: Disk>(
     ensures others { Torn at (length (frame group.now)) (D.Disk.seen disk.old) (D.Disk.seen disk.new) }
     ensures durable { OnOk result (Only (D.Disk.seen disk.new) (D.Disk.may_leave disk.new)) }
     ensures crash { IsTrue (D.Disk.is_mixing disk.old) → Follows (Mixed at (frame group.now)) (D.Disk.may_leave disk.old) (D.Disk.may_leave disk.new) }
+    ensures torn { Follows (Torn at (length (frame group.now))) (D.Disk.may_leave disk.old) (D.Disk.may_leave disk.new) }
+    ensures clean { D.Disk.is_clean disk.new ≡ D.Disk.is_clean disk.old }
 {
     let bytes = framed(group, buffer);
     put_piece(disk, at, bytes)?;
@@ -155,7 +170,12 @@ fn framed<'a>(group: &[u8], buffer: &'a mut [u8]) -> &'a [u8]
 
 /// Writes zeros behind the groups and cuts what is behind them, durably.
 pub fn clear_behind<D: Disk>(disk: &mut D, end: usize) -> Result<(), JournalError>
-    requires { end < 2 ^ 63 }
+    requires small { end < 2 ^ 63 }
+    ensures rests { OnOk result ((part : Part) → Has (D.Disk.seen disk.old) part → end ≡ 64 + part.head.text + length (frames part.groups)
+        → Has (D.Disk.seen disk.new) part × IsAtRest D.Disk.seen D.Disk.may_leave disk.new (64 + part.head.text) part.groups end (end + 131072)) }
+    ensures crash { Mixes D.Disk.is_mixing → Only (D.Disk.seen disk.old) (D.Disk.may_leave disk.old) → (part : Part) → Has (D.Disk.seen disk.old) part → end ≡ 64 + part.head.text + length (frames part.groups)
+        → (c : List ℕ) → D.Disk.may_leave disk.new c → Has c part }
+    ensures clean { D.Disk.is_clean disk.new ≡ D.Disk.is_clean disk.old }
 {
     if !disk.may_be_used() {
         return Err(JournalError::NotWritten);

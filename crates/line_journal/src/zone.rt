@@ -4,7 +4,7 @@ ghost use Rattle.line_journal.specs.Finding.{FoundWithin, IsFoundIn, IsEnded, Is
 
 use crate::calls::read;
 use crate::error::JournalError;
-use crate::group::{HEAD, has_zero, is_group, is_head, length_in, lines_in};
+use crate::group::{HEAD, MOST_GROUP, has_zero, is_group, is_head, length_in, lines_in};
 use sqlite_disk::Disk;
 
 /// The groups of a file from a place on.
@@ -38,6 +38,7 @@ pub fn read_group<D: Disk>(
     ensures found { IfOk result (λ found. IsTrue (D.Disk.is_clean disk.new) → IsFoundIn (D.Disk.seen disk.old) at buffer.new found) }
     ensures seen { D.Disk.seen disk.new ≡ D.Disk.seen disk.old }
     ensures clean { IsTrue (D.Disk.is_clean disk.new) → IsTrue (D.Disk.is_clean disk.old) }
+    ensures leaves { (c : List ℕ) → D.Disk.may_leave disk.new c → D.Disk.may_leave disk.old c }
 {
     if at >= len {
         return Ok(Found::Broken);
@@ -51,7 +52,7 @@ pub fn read_group<D: Disk>(
         return Ok(Found::End);
     }
     let n = length_in(&head);
-    if n == 0 || n > buffer.len() || n > len - at - HEAD {
+    if n == 0 || n > MOST_GROUP || n > buffer.len() || n > len - at - HEAD {
         return Ok(Found::Broken);
     }
     let body = &mut buffer[..n];
@@ -67,6 +68,7 @@ fn read_end<D: Disk>(disk: &mut D, at: usize, there: usize) -> Result<Found, Jou
     ensures found { IfOk result (λ found. IsTrue (D.Disk.is_clean disk.new) → (buffer : List ℕ) → IsFoundIn (D.Disk.seen disk.old) at buffer found) }
     ensures seen { D.Disk.seen disk.new ≡ D.Disk.seen disk.old }
     ensures clean { IsTrue (D.Disk.is_clean disk.new) → IsTrue (D.Disk.is_clean disk.old) }
+    ensures leaves { (c : List ℕ) → D.Disk.may_leave disk.new c → D.Disk.may_leave disk.old c }
 {
     let mut rest = [0; HEAD];
     let part = &mut rest[..there];
@@ -111,9 +113,10 @@ pub fn scan<D: Disk>(
 ) -> Result<Result<Groups, u64>, JournalError>
     requires { start ≤ len }
     ensures within { IfOk result (λ r. IfOk r (λ groups. (start ≤ groups.end) × (groups.end ≤ len))) }
-    ensures all { IfOk result (λ r. IfOk r (λ groups. IsTrue (D.Disk.is_clean disk.new) → start ≤ length (D.Disk.seen disk.old) → HasAll (D.Disk.seen disk.old) start groups.end)) }
+    ensures all { IfOk result (λ r. IfOk r (λ groups. IsTrue (D.Disk.is_clean disk.new) → start ≤ length (D.Disk.seen disk.old) → HasAll (D.Disk.seen disk.old) start groups.end groups.lines)) }
     ensures seen { D.Disk.seen disk.new ≡ D.Disk.seen disk.old }
     ensures clean { IsTrue (D.Disk.is_clean disk.new) → IsTrue (D.Disk.is_clean disk.old) }
+    ensures leaves { (c : List ℕ) → D.Disk.may_leave disk.new c → D.Disk.may_leave disk.old c }
 {
     let mut groups = Groups {
         end: start,
@@ -137,7 +140,11 @@ pub fn has_group_behind<D: Disk>(
     from: usize,
     len: usize,
     buffer: &mut [u8],
-) -> Result<bool, JournalError> {
+) -> Result<bool, JournalError>
+    ensures seen { D.Disk.seen disk.new ≡ D.Disk.seen disk.old }
+    ensures clean { IsTrue (D.Disk.is_clean disk.new) → IsTrue (D.Disk.is_clean disk.old) }
+    ensures leaves { (c : List ℕ) → D.Disk.may_leave disk.new c → D.Disk.may_leave disk.old c }
+{
     let mut block = [0; 4096];
     let mut at = from;
     let mut last = 0;
@@ -165,7 +172,11 @@ fn is_whole<D: Disk>(
     at: usize,
     len: usize,
     buffer: &mut [u8],
-) -> Result<bool, JournalError> {
+) -> Result<bool, JournalError>
+    ensures seen { D.Disk.seen disk.new ≡ D.Disk.seen disk.old }
+    ensures clean { IsTrue (D.Disk.is_clean disk.new) → IsTrue (D.Disk.is_clean disk.old) }
+    ensures leaves { (c : List ℕ) → D.Disk.may_leave disk.new c → D.Disk.may_leave disk.old c }
+{
     Ok(matches!(
         read_group(disk, at, len, buffer)?,
         Found::Group(_)

@@ -3,7 +3,7 @@ use Rattle.std.proofs.Common.{◌≡◌, ℕ, ◌+◌, ◌<◌, ◌≤◌, List,
 use Rattle.std.specs.Prelude.{slice_index}
 use Rattle.std.proofs.lemmas.List.{length-take-le, length-replicate, take-replicate, get_or-replicate}
 use Rattle.line_journal.specs.Resting.{IsBlank}
-use Rattle.line_journal.proofs.Rests.{piece_below, piece_crash, piece_blank}
+use Rattle.line_journal.proofs.Rests.{piece_below, piece_crash, piece_blank, piece_blanks}
 use Rattle.line_journal.proofs.tail.put_zeros.Goals as goal
 
 abbrev blanks : List ℕ
@@ -32,4 +32,14 @@ pieces-preserved g c =
       crash = piece_crash c.args.from c.pieces.at _ _ _ _ h.place h.crash put.crash;
       blank = subst (λ (k : ℕ). IsBlank (d.seen c.put_piece.new.disk) c.args.from (c.pieces.at + k)) long
         (piece_blank c.args.from c.pieces.at (take n blanks) (d.seen c.pieces.disk) (d.seen c.put_piece.new.disk) h.blank put.others (put.written (omega (arith, some, long))) (λ i low. zero_in n i few (omega (arith, low, long))));
+      blanks = λ mixes. piece_blanks c.args.from c.pieces.at (take n blanks) _ _ _ h.place (λ i low. zero_in n i few (omega (arith, low, long))) (h.blanks mixes) (put.mixed (mixes c.pieces.disk) (omega (arith, long, c.min-n.ensures, c.ranges.to)));
+      clean = put.clean ∙ h.clean;
     }
+
+pub returns-in_err-put_piece-clause-blanks : goal.returns-in_err-put_piece-clause-blanks
+returns-in_err-put_piece-clause-blanks g c mixes =
+    let h = c.pieces.invariant in
+    let n = c.min-n.result in
+    let few : n ≤ 8192 = omega (arith, c.min-n.ensures) in
+    let long = long_of n few in
+    piece_blanks c.args.from c.pieces.at (take n blanks) _ _ _ h.place (λ i low. zero_in n i few (omega (arith, low, long))) (h.blanks mixes) (c.put_piece.ensures.mixed (mixes c.pieces.disk) (omega (arith, long, c.min-n.ensures, c.ranges.to)))

@@ -17,4 +17,4 @@ returns-clause-found g c clean =
     let some : 0 < length (take n c.args.buffer.now) = omega (arith, room, c.if-n-eq0.false) in
     let front = c.in_ok-read.ensures.read (c.read-2.ensures.clean clean) (omega (arith, length-replicate {A = ℕ} 13 0)) in
     let behind = rw c.read.ensures.seen at (c.in_ok-read-2.ensures.read clean some) in
-    found_judged (d.seen c.args.disk.now) c.args.at head body (body ++ drop n c.args.buffer.now) c.judged.result front thirteen behind (long ∙ c.length_in-n.ensures) (take-append_seam body (drop n c.args.buffer.now)) c.judged.ensures
+    found_judged (d.seen c.args.disk.now) c.args.at head body (body ++ drop n c.args.buffer.now) c.judged.result front thirteen behind (omega (arith, long)) (long ∙ c.length_in-n.ensures) (take-append_seam body (drop n c.args.buffer.now)) c.judged.ensures
