@@ -67,6 +67,13 @@ module _ {D : Type 0} (seen : D → List ℕ) (may_leave : D → List ℕ → Ty
       } in
       subst (λ (h : Head). StandsOn seen may_leave current second half (half.groups.end + 131072) (snapshot_of h [])) is made
 
+  pub of_stands : (x y a b : D) (l m : Half) (j k : ℕ) (part : Part) → a ≡ x → b ≡ y → m ≡ l → k ≡ j → StandsOn seen may_leave x y l j part → StandsOn seen may_leave a b m k part
+  of_stands x y a b l m j k part same_x same_y same_l same_j stands =
+      subst (λ (z : D). StandsOn seen may_leave z b m k part) (sym same_x)
+      (subst (λ (z : D). StandsOn seen may_leave x z m k part) (sym same_y)
+        (subst (λ (z : Half). StandsOn seen may_leave x y z k part) (sym same_l)
+          (subst (λ (z : ℕ). StandsOn seen may_leave x y l z part) (sym same_j) stands)))
+
   -- a snapshot is ended
   pub ended_stands : (current other new : D) (last half : Half) (limit : ℕ) (head : Head) (part : Part) (text : List ℕ) → StandsOn seen may_leave current other last limit part → head ≡ next_head part text
       → (half.head ≡ head) × (half.groups.end ≡ 64 + head.text) × (half.groups.lines ≡ 0)

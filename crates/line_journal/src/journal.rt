@@ -1,5 +1,4 @@
 ghost use Rattle.std.specs.Prelude.{◌≡◌, ◌⊎◌, ℕ, ◌+◌, ◌<◌, ◌≤◌, ◌^◌, ◌-◌, List, [], ◌∷◌, ◌++◌, min, length, get_or, slice_index, Option, None, Some, IfSome, IfOk, IfErr, OnOk, OnErr, IsTrue, vec_len};
-ghost use Rattle.std.specs.Hash.DefaultHasher as sip;
 ghost use Rattle.sqlite_disk.specs.Disk.{Only};
 ghost use Rattle.line_journal.specs.Groups.{IsGroup, lines_of};
 ghost use Rattle.line_journal.specs.Parts.{Part, StandFor, with_group, snapshot_of, next_head};
@@ -405,13 +404,13 @@ impl<D: Disk, A: Allocator> Journal<D, A> {
         let Some(turn) = self.last.head.turn.checked_add(1) else {
             return Err(JournalError::DiskFull);
         };
-        Ok(Head {
-            workers: self.last.head.workers,
+        Ok(head_of(
+            self.last.head.workers,
             turn,
-            covers: self.last.lines(),
-            text: self.draft,
-            sum: self.draft_sum.finish(),
-        })
+            self.last.lines(),
+            self.draft,
+            self.draft_sum.finish(),
+        ))
     }
 
     /// Gives the files back.
@@ -424,5 +423,23 @@ impl<D: Disk, A: Allocator> Journal<D, A> {
             log: current,
             db: other,
         }
+    }
+}
+
+fn head_of(workers: u32, turn: u64, covers: u64, text: usize, sum: u64) -> Head
+    requires { text ≤ 2 ^ 40 }
+    ensures fits { FitsFront result }
+    ensures workers { result.workers ≡ workers }
+    ensures turn { result.turn ≡ turn }
+    ensures covers { result.covers ≡ covers }
+    ensures text { result.text ≡ text }
+    ensures sum { result.sum ≡ sum }
+{
+    Head {
+        workers,
+        turn,
+        covers,
+        text,
+        sum,
     }
 }

@@ -1,5 +1,6 @@
-use Rattle.std.proofs.Common.{◌≡◌, ℕ, ◌+◌, ◌<◌, List, [], ◌∷◌, ◌++◌, length, refl, ap, ◌∙◌, sym, subst, inl, arith}
+use Rattle.std.proofs.Common.{◌≡◌, ℕ, ◌+◌, ◌<◌, List, [], ◌∷◌, ◌++◌, length, min, refl, ap, ◌∙◌, sym, subst, inl, arith}
 use Rattle.line_journal.specs.Resting.{KeepsBelow}
+use Rattle.line_journal.specs.declared.half.Half.{Half}
 use Rattle.line_journal.proofs.Staying.{stands_left, append_left, half_more}
 use Rattle.line_journal.proofs.Keeping.{has_more}
 use Rattle.line_journal.proofs.journal.Journal.append.Goals as goal
@@ -27,10 +28,13 @@ pub returns-clause-kept : goal.returns-clause-kept
 returns-clause-kept g c part stands =
     let self = c.args.self.now in
     let rest = c.in_ok-self.ensures.kept (64 + part.head.text) part.groups stands.rest in
-    let counted = c.saturating_add.ensures ∙ ap (λ (k : ℕ). ?) c.lines_in.ensures in
+    let room = c.in_ok-self.ensures.room in
+    let end = self.last.groups.end + (13 + length c.args.lines.now) in
+    let next : Half = record { head = self.last.head; groups = record { end = end; lines = c.saturating_add-self.result } } in
+    let counted = c.saturating_add-self.ensures ∙ ap (λ (k : ℕ). min (self.last.groups.lines + k) 18446744073709551615) c.lines_in.ensures in
     record {
       has = has_more (g.D.Disk.seen self.current) (g.D.Disk.seen c.append_group.new.disk) part self.last.groups.end c.args.lines.now stands.has stands.half.ends c.append_group.ensures.front c.in_ok-may_append.ensures.group rest.keeps;
-      half = ?;
+      half = half_more self.last next part c.args.lines.now 18446744073709551615 stands.half refl refl counted (omega (arith, room.0, room.1));
       rest = rest;
       older = stands.older;
     }

@@ -18,4 +18,4 @@ pub returns-clause-kept : goal.returns-clause-kept
 returns-clause-kept g c part stands =
     let closed = c.in_ok-shut.ensures.closed in
     (record { has = stands.has; half = stands.half; rest = stands.rest; older = λ e left. closed_older e part.head.turn (closed.left e left) },
-      record { begun = refl; closed = closed; long = refl; there = λ i low. absurd (omega (arith, low)); sum = c.new.ensures ∙ write_none })
+      record { begun = refl; closed = closed; long = refl; there = λ i low. absurd (omega (arith, low)); sum = c.new-self.ensures ∙ write_none })
