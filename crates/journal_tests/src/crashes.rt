@@ -1,5 +1,7 @@
 //! A crash at each call of the disk, and what it leaves: the lines from before the call, with the group or without.
-use crate::disks::{Draws, Image, TestDisk, disk_of, empty_files, lines_behind, open, put_snapshot, text_of};
+use crate::disks::{
+    Draws, Image, TestDisk, disk_of, empty_files, lines_behind, open, put_snapshot, text_of,
+};
 use line_journal::{Journal, Which};
 use sqlite_disk::Files;
 use std::alloc::Global;
@@ -113,7 +115,9 @@ fn a_snapshot_is_the_last_or_not(rt: HostRuntime) -> Result<(), Fail> {
     for calls in 40..67u64 {
         let (left, done) = crashed(alloc, &bytes, Step::Snapshot, [u64::MAX, calls], &mut draws)?;
         let (covers, text, lines) = read_all(alloc, &left)?;
-        let with = covers == 4 && text.as_slice() == b"sched snapshot 1\nnew\n".as_slice() && lines.is_empty();
+        let with = covers == 4
+            && text.as_slice() == b"sched snapshot 1\nnew\n".as_slice()
+            && lines.is_empty();
         let without = covers == 3
             && text.as_slice() == b"sched snapshot 1\nthree\n".as_slice()
             && lines.as_slice() == b"clock 4\n".as_slice();
@@ -133,7 +137,9 @@ fn a_repair_may_crash_too(rt: HostRuntime) -> Result<(), Fail> {
         let (left, _) = crashed(alloc, &torn, Step::Open, [calls, u64::MAX], &mut draws)?;
         let again = read_all(alloc, &left)?;
         assert!(rt; again.0 == covers);
-        assert!(rt; again.1.as_slice() == text.as_slice() && again.2.as_slice() == lines.as_slice());
+        assert!(rt;
+            again.1.as_slice() == text.as_slice() && again.2.as_slice() == lines.as_slice()
+        );
     }
     Ok(())
 }

@@ -40,8 +40,14 @@ fn what_decays_is_refused_or_a_front(rt: HostRuntime) -> Result<(), Fail> {
         let text = text_of(alloc, &mut journal, Which::Last)?;
         let lines = lines_behind(alloc, &mut journal, Which::Last)?;
         let (want, all) = match covers {
-            1 => (b"sched snapshot 1\none\n".as_slice(), b"clock 2\nclock 3\n".as_slice()),
-            _ => (b"sched snapshot 1\nthree\n".as_slice(), b"clock 4\n".as_slice()),
+            1 => (
+                b"sched snapshot 1\none\n".as_slice(),
+                b"clock 2\nclock 3\n".as_slice(),
+            ),
+            _ => (
+                b"sched snapshot 1\nthree\n".as_slice(),
+                b"clock 4\n".as_slice(),
+            ),
         };
         assert!(rt; covers == 1 || covers == 3);
         assert!(rt; text.as_slice() == want);

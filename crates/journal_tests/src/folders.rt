@@ -25,7 +25,11 @@ fn a_folder_keeps_lines_for_one_at_a_time(rt: HostRuntime) -> Result<(), Fail> {
     assert!(rt; open_folder(&rt, FOLDER, Unknown, 4).err() == Some(JournalError::OtherWorkers(3)));
     let mut again = open_folder(&rt, FOLDER, Unknown, 3)?;
     assert!(rt; again.lines() == 3);
-    assert!(rt; again.snapshot(Which::Last).is_some_and(|it| it.covers == 2 && it.bytes == 18));
+    assert!(rt;
+        again
+            .snapshot(Which::Last)
+            .is_some_and(|it| it.covers == 2 && it.bytes == 18)
+    );
     let first = again.snapshot(Which::Last).map_or(0, |it| it.groups);
     let next = again.read_group(Which::Last, first)?;
     assert!(rt; next.is_some() && again.group() == b"clock 3\n".as_slice());

@@ -13,10 +13,16 @@ fn lines_are_read_back(rt: HostRuntime) -> Result<(), Fail> {
     assert!(rt; journal.lines() == 3);
     let mut again = open(alloc, journal.close())?;
     assert!(rt; again.lines() == 3);
-    assert_eq!(rt; lines_behind(alloc, &mut again, Which::Last)?.as_slice(), b"clock 5\nstart 0\nclock 6\n".as_slice());
+    assert_eq!(rt;
+        lines_behind(alloc, &mut again, Which::Last)?.as_slice(),
+        b"clock 5\nstart 0\nclock 6\n".as_slice()
+    );
     again.append(b"clock 7\n")?;
     let mut third = open(alloc, again.close())?;
-    assert_eq!(rt; lines_behind(alloc, &mut third, Which::Last)?.as_slice(), b"clock 5\nstart 0\nclock 6\nclock 7\n".as_slice());
+    assert_eq!(rt;
+        lines_behind(alloc, &mut third, Which::Last)?.as_slice(),
+        b"clock 5\nstart 0\nclock 6\nclock 7\n".as_slice()
+    );
     Ok(())
 }
 
@@ -31,12 +37,28 @@ fn snapshots_are_read_back(rt: HostRuntime) -> Result<(), Fail> {
     journal.append(b"clock 8\n")?;
     let mut again = open(alloc, journal.close())?;
     assert!(rt; again.lines() == 4);
-    assert_eq!(rt; text_of(alloc, &mut again, Which::Last)?.as_slice(), b"sched snapshot 1\nof three lines\n".as_slice());
-    assert_eq!(rt; lines_behind(alloc, &mut again, Which::Last)?.as_slice(), b"clock 8\n".as_slice());
-    assert_eq!(rt; text_of(alloc, &mut again, Which::Before)?.as_slice(), b"sched snapshot 1\nof one\n".as_slice());
-    assert_eq!(rt; lines_behind(alloc, &mut again, Which::Before)?.as_slice(), b"clock 6\nclock 7\n".as_slice());
+    assert_eq!(rt;
+        text_of(alloc, &mut again, Which::Last)?.as_slice(),
+        b"sched snapshot 1\nof three lines\n".as_slice()
+    );
+    assert_eq!(rt;
+        lines_behind(alloc, &mut again, Which::Last)?.as_slice(),
+        b"clock 8\n".as_slice()
+    );
+    assert_eq!(rt;
+        text_of(alloc, &mut again, Which::Before)?.as_slice(),
+        b"sched snapshot 1\nof one\n".as_slice()
+    );
+    assert_eq!(rt;
+        lines_behind(alloc, &mut again, Which::Before)?.as_slice(),
+        b"clock 6\nclock 7\n".as_slice()
+    );
     assert!(rt; again.snapshot(Which::Last).is_some_and(|it| it.covers == 3));
-    assert!(rt; again.snapshot(Which::Before).is_some_and(|it| it.covers == 1));
+    assert!(rt;
+        again
+            .snapshot(Which::Before)
+            .is_some_and(|it| it.covers == 1)
+    );
     Ok(())
 }
 

@@ -1,5 +1,5 @@
 -- Choosing: which of two files is the last one.
-use Rattle.std.proofs.Common.{◌≡◌, ◌⊎◌, ℕ, ◌<◌, Bool, true, false, MatchBool, Option, None, Some, List, ap, sym, ◌∙◌, subst, inl, inr}
+use Rattle.std.proofs.Common.{◌≡◌, ℕ, ◌<◌, Bool, true, false, MatchBool, Option, None, Some, List, ap, sym, ◌∙◌, subst, inl, inr}
 use Rattle.sqlite_disk.specs.Disk.{Only}
 use Rattle.line_journal.specs.Fronts.{IsShut}
 use Rattle.line_journal.specs.Halves.{IsHalfOf, IsReadAs}

@@ -1,14 +1,14 @@
 -- Gates: a file that is shut stays shut, or is opened with all that it has.
-use Rattle.std.proofs.Common.{◌≡◌, ◌⊎◌, ℕ, zero, suc, ◌+◌, ◌-◌, ◌<◌, ◌≤◌, List, [], ◌∷◌, ◌++◌, length, refl, ap, sym, ◌∙◌, subst, inl, inr, arith, length-append}
+use Rattle.std.proofs.Common.{◌≡◌, ◌⊎◌, ℕ, suc, ◌+◌, ◌-◌, ◌<◌, ◌≤◌, List, [], ◌∷◌, ◌++◌, length, refl, ap, sym, ◌∙◌, subst, inl, inr, arith, length-append}
 use Rattle.std.specs.Prelude.{slice_index, Result, Ok, Err, OnOk}
 use Rattle.std.proofs.lemmas.Bool.{cases_lt}
 use Rattle.std.proofs.lemmas.List.{get_or_append_left, get_or-append_right}
-use Rattle.sqlite_disk.specs.Disk.{Holds, Torn, Mixed, Cut, Only, Follows}
-use Rattle.line_journal.specs.Groups.{HasZeros, Keeps}
+use Rattle.sqlite_disk.specs.Disk.{Holds, Torn, Mixed, Cut}
+use Rattle.line_journal.specs.Groups.{HasZeros}
 use Rattle.line_journal.specs.Fronts.{told_whole, front_bytes, FitsFront, IsShut}
-use Rattle.line_journal.specs.Parts.{Part, Has, IsOlder, snapshot_of}
-use Rattle.line_journal.specs.Gates.{IsClosed, StaysClosed, IsReady}
-use Rattle.line_journal.specs.Resting.{KeepsBelow, IsBlank, IsThere, IsAtRest}
+use Rattle.line_journal.specs.Parts.{Has, IsOlder, snapshot_of}
+use Rattle.line_journal.specs.Gates.{IsClosed, IsReady}
+use Rattle.line_journal.specs.Resting.{KeepsBelow, IsBlank, IsThere}
 use Rattle.line_journal.specs.declared.head.Head.{Head}
 use Rattle.line_journal.proofs.Tearing.{ends_at_zero}
 use Rattle.line_journal.proofs.One.{same_list}
@@ -42,9 +42,9 @@ pub older_shut : (turn : ℕ) (old c : List ℕ) → Mixed 0 (0 ∷ []) old c �
 older_shut turn old c mixed (inl (inl short)) = inl (inl (omega (arith, short, mixed.torn.no_longer)))
 older_shut turn old c mixed (inl (inr nil)) = elim (cases_lt 0 (length old)) [
   | inl some ↦ elim (mixed.each 0 (omega arith) some) [
-      | inl same ↦ inl (inr (same ∙ nil))
-      | inr put ↦ inl (inr put)
-    ]
+    | inl same ↦ inl (inr (same ∙ nil))
+    | inr put ↦ inl (inr put)
+  ]
   | inr none ↦ inl (inl (omega (arith, none, mixed.torn.no_longer)))
 ]
 older_shut turn old c mixed (inr found) =
@@ -89,35 +89,37 @@ opened file c head text is long fits mixed gate =
     let above : (i : ℕ) → 0 < i → i < length file → slice_index c i ≡ slice_index file i = λ i some low. mixed.torn.above i low (omega (arith, some)) in
     let far : 64 + head.text + 131072 ≤ length c = omega (arith, is.zeros.0, long, mixed.torn.no_shorter) in
     let zeros : (i : ℕ) → 64 + head.text ≤ i → i < 64 + head.text + 131072 → slice_index c i ≡ 0 = λ i from less. above i (omega (arith, from)) (omega (arith, less, is.zeros.0, long)) ∙ is.zeros.1 i (omega (arith, from, long)) (omega (arith, less, long)) in
-    let here : 64 + head.text + 0 ≡ 64 + head.text = omega arith in
-    (record {
-      front = record {
-        within = omega (arith, size, far);
-        each = λ i low.
-          let there : 0 + i ≡ i = omega arith in
-          let one : slice_index c i ≡ slice_index (front_bytes head) i = elim (cases_lt i 1) [
-          | inl first ↦ let place : 0 ≡ i = omega (arith, first) in subst (λ (j : ℕ). slice_index c j ≡ slice_index (front_bytes head) j) place gate
-          | inr past ↦
-              let place : suc (i - 1) ≡ i = omega (arith, past) in
-              let up : suc (i - 1) ≡ 1 + (i - 1) = omega arith in
-              let one : slice_index c (suc (i - 1)) ≡ slice_index (told_whole head) (i - 1) =
-                  above (suc (i - 1)) (omega arith) (omega (arith, low, size, is.zeros.0)) ∙ (ap (λ (j : ℕ). slice_index file j) up ∙ is.front.each (i - 1) (omega (arith, low, past))) in
-              subst (λ (j : ℕ). slice_index c j ≡ slice_index (front_bytes head) j) place one
-          ] in
-          ap (λ (j : ℕ). slice_index c j) there ∙ one;
-      };
-      fits = fits;
-      text = record {
-        within = omega (arith, long, far);
-        each = λ i low. above (64 + i) (omega arith) (omega (arith, low, is.written.within)) ∙ is.written.each i low;
-      };
-      long = long;
-      all = tt;
-      keeps = record {
-        front = record { within = omega (arith, far); each = λ i low. absurd (omega (arith, low)) };
-        last = ends_at_zero c (64 + head.text + 0) (omega (arith, far)) (ap (λ (i : ℕ). slice_index c i) here ∙ zeros (64 + head.text) (omega arith) (omega arith));
-      };
-    }, (far, zeros))
+    let here : 64 + head.text + 0 ≡ 64 + head.text = omega arith in (
+      record {
+        front = record {
+          within = omega (arith, size, far);
+          each = λ i low.
+              let there : 0 + i ≡ i = omega arith in
+              let one : slice_index c i ≡ slice_index (front_bytes head) i = elim (cases_lt i 1) [
+                | inl first ↦ let place : 0 ≡ i = omega (arith, first) in subst (λ (j : ℕ). slice_index c j ≡ slice_index (front_bytes head) j) place gate
+                | inr past ↦
+                    let place : suc (i - 1) ≡ i = omega (arith, past) in
+                    let up : suc (i - 1) ≡ 1 + (i - 1) = omega arith in
+                    let one : slice_index c (suc (i - 1)) ≡ slice_index (told_whole head) (i - 1) =
+                    above (suc (i - 1)) (omega arith) (omega (arith, low, size, is.zeros.0)) ∙ (ap (λ (j : ℕ). slice_index file j) up ∙ is.front.each (i - 1) (omega (arith, low, past))) in
+                    subst (λ (j : ℕ). slice_index c j ≡ slice_index (front_bytes head) j) place one
+              ] in
+              ap (λ (j : ℕ). slice_index c j) there ∙ one;
+        };
+        fits = fits;
+        text = record {
+          within = omega (arith, long, far);
+          each = λ i low. above (64 + i) (omega arith) (omega (arith, low, is.written.within)) ∙ is.written.each i low;
+        };
+        long = long;
+        all = tt;
+        keeps = record {
+          front = record { within = omega (arith, far); each = λ i low. absurd (omega (arith, low)) };
+          last = ends_at_zero c (64 + head.text + 0) (omega (arith, far)) (ap (λ (i : ℕ). slice_index c i) here ∙ zeros (64 + head.text) (omega arith) (omega arith));
+        };
+      },
+      (far, zeros),
+    )
 
 pub gate : (file c : List ℕ) (head : Head) (text : List ℕ) → IsReady file head text → length text ≡ head.text → FitsFront head → Mixed 0 (1 ∷ []) file c
     → IsShut c ⊎ Has c (snapshot_of head text)

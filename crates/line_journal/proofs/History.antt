@@ -1,8 +1,8 @@
 -- History: over a whole run no answered group is lost.
-use Rattle.std.proofs.Common.{◌≡◌, ◌⊎◌, ℕ, ◌+◌, ◌-◌, ◌^◌, ◌≤◌, List, [], ◌∷◌, ◌++◌, length, min, take, refl, ap, sym, ◌∙◌, subst, inl, inr, arith, append_assoc, append-nil}
+use Rattle.std.proofs.Common.{◌≡◌, ◌⊎◌, ℕ, ◌+◌, List, [], ◌∷◌, ◌++◌, refl, ap, sym, ◌∙◌, subst, inl, inr, arith, append_assoc, append-nil}
 use Rattle.line_journal.specs.Groups.{lines_of}
 use Rattle.line_journal.specs.Parts.{Part, with_group, snapshot_of, next_head}
-use Rattle.line_journal.specs.Runs.{Event, answered, unanswered, covered, uncovered, May, Leads, KeepsAnswered, IsOf, one_run}
+use Rattle.line_journal.specs.Runs.{Event, answered, unanswered, covered, uncovered, Leads, KeepsAnswered, IsOf, one_run}
 use Rattle.line_journal.proofs.Reading.{lines_both}
 
 of_group : (p : Part) (group : List ℕ) (groups : List (List ℕ)) → IsOf p groups → IsOf (with_group p group) (groups ++ group ∷ [])

@@ -1,11 +1,10 @@
 -- Keeping: a file keeps its part where its end is repaired, and has one group more where that is put.
-use Rattle.std.proofs.Common.{◌≡◌, ◌⊎◌, ℕ, ◌+◌, ◌-◌, ◌<◌, ◌≤◌, List, [], ◌∷◌, ◌++◌, length, min, refl, ap, sym, ◌∙◌, subst, inl, inr, arith}
+use Rattle.std.proofs.Common.{◌≡◌, ℕ, ◌+◌, ◌<◌, ◌≤◌, List, [], ◌∷◌, ◌++◌, length, ◌∙◌, subst, arith}
 use Rattle.std.specs.Prelude.{slice_index}
-use Rattle.std.specs.List.{AllByRecursion}
-use Rattle.sqlite_disk.specs.Disk.{Holds, Torn, Mixed, Cut, Only, Follows}
-use Rattle.line_journal.specs.Groups.{frame, frames, lines_of, IsGroup, Ends, Keeps, HasZeros}
-use Rattle.line_journal.specs.Parts.{Part, Has, IsOlder, StandFor, with_group}
-use Rattle.line_journal.specs.Resting.{KeepsBelow, SameBelow, Blanks, IsBlank, IsAtRest}
+use Rattle.sqlite_disk.specs.Disk.{Cut}
+use Rattle.line_journal.specs.Groups.{frames, IsGroup, Keeps, HasZeros}
+use Rattle.line_journal.specs.Parts.{Part, Has, with_group}
+use Rattle.line_journal.specs.Resting.{KeepsBelow, SameBelow, Blanks, IsBlank}
 use Rattle.line_journal.proofs.Tearing.{ends_at_zero, ends_blanks, ends_same}
 use Rattle.line_journal.proofs.Reading.{all_last}
 use Rattle.line_journal.proofs.Rests.{same_of_below}
@@ -37,11 +36,13 @@ pub has_cleared : (old mid new : List ℕ) (part : Part) (end : ℕ) → Has old
 has_cleared old mid new part end has ends below blank cut long =
     let same : SameBelow end old new = λ i there low. (omega (arith, low, long), cut.below i (omega (arith, there, below.long)) (omega (arith, low)) ∙ below.below i there low) in
     let zeros : (i : ℕ) → end ≤ i → i < end + 131072 → slice_index new i ≡ 0 = λ i from less. cut.below i (blank i from less).0 less ∙ (blank i from less).1 in
-    let last : slice_index new (64 + part.head.text + length (frames part.groups)) ≡ 0 = subst (λ (e : ℕ). slice_index new e ≡ 0) ends (zeros end (omega arith) (omega arith)) in
-    (has_same old new part end part.groups has (omega (arith, ends)) same has.all (record {
-      front = holds_same old new (64 + part.head.text) end (frames part.groups) has.keeps.front (omega (arith, ends)) same;
-      last = ends_at_zero new (64 + part.head.text + length (frames part.groups)) (omega (arith, ends, long)) last;
-    }), (omega (arith, long), zeros))
+    let last : slice_index new (64 + part.head.text + length (frames part.groups)) ≡ 0 = subst (λ (e : ℕ). slice_index new e ≡ 0) ends (zeros end (omega arith) (omega arith)) in (
+      has_same old new part end part.groups has (omega (arith, ends)) same has.all (record {
+        front = holds_same old new (64 + part.head.text) end (frames part.groups) has.keeps.front (omega (arith, ends)) same;
+        last = ends_at_zero new (64 + part.head.text + length (frames part.groups)) (omega (arith, ends, long)) last;
+      }),
+      (omega (arith, long), zeros),
+    )
 
 -- a group is put
 pub has_more : (old c : List ℕ) (part : Part) (end : ℕ) (g : List ℕ) → Has old part → end ≡ 64 + part.head.text + length (frames part.groups) → KeepsBelow end old c → IsGroup g

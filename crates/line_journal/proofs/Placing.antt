@@ -1,19 +1,18 @@
 -- Placing: where the groups of a part stand, and what is read there.
-use Rattle.std.proofs.Common.{◌≡◌, ℕ, zero, suc, ◌+◌, ◌-◌, ◌<◌, ◌≤◌, List, [], ◌∷◌, ◌++◌, length, take, drop, refl, ap, sym, ◌∙◌, subst, inl, inr, arith, get_or, add-one, length-append}
+use Rattle.std.proofs.Common.{◌≡◌, ℕ, zero, suc, ◌+◌, ◌<◌, ◌≤◌, List, [], ◌∷◌, ◌++◌, length, take, drop, refl, ap, sym, ◌∙◌, subst, inl, inr, arith, get_or, add-one, length-append}
 use Rattle.std.specs.Prelude.{slice_index}
 use Rattle.std.specs.List.{AllByRecursion}
 use Rattle.std.proofs.lemmas.List.{length-take-le, length-drop, get_or-take, get_or-drop}
 use Rattle.std.proofs.lemmas.Bool.{cases_lt}
-use Rattle.sqlite_disk.specs.Disk.{Holds, Only}
+use Rattle.sqlite_disk.specs.Disk.{Holds}
 use Rattle.line_journal.specs.Groups.{frame, frames, IsGroup, Keeps, HasZeros}
 use Rattle.line_journal.specs.Finding.{IsFoundIn, HasAll}
 use Rattle.line_journal.specs.Fronts.{front_bytes, FitsFront}
 use Rattle.line_journal.specs.Halves.{IsHalfOf}
 use Rattle.line_journal.specs.declared.head.Head.{Head}
 use Rattle.line_journal.specs.declared.zone.Groups.{Groups}
-use Rattle.line_journal.specs.Parts.{Part, Has, IsOlder, place_of}
+use Rattle.line_journal.specs.Parts.{Part, Has, place_of}
 use Rattle.line_journal.specs.Openings.{StandsOn}
-use Rattle.line_journal.specs.Resting.{IsAtRest}
 use Rattle.line_journal.specs.declared.half.Half.{Half}
 use Rattle.line_journal.specs.declared.zone.Found.TheVariants.{Group}
 use Rattle.line_journal.proofs.Frames.{length-frame}
@@ -76,8 +75,8 @@ pub part_read : (file : List ℕ) (head : Head) (groups : Groups) → 64 + head.
     → (part : Part) × Has file part × IsHalfOf (record { head = head; groups = groups }) part
 part_read file head groups room front fits all =
     let text : List ℕ = take head.text (drop 64 file) in
-    let long : length text ≡ head.text = length-take-le head.text (drop 64 file) (omega (arith, length-drop 64 file, room)) in
-    (record { head = head; text = text; groups = all.0 },
+    let long : length text ≡ head.text = length-take-le head.text (drop 64 file) (omega (arith, length-drop 64 file, room)) in (
+      record { head = head; text = text; groups = all.0 },
       record {
         front = front;
         fits = fits;
@@ -89,7 +88,8 @@ part_read file head groups room front fits all =
         all = all.1;
         keeps = all.2;
       },
-      record { head = refl; ends = all.3; lines = all.4 })
+      record { head = refl; ends = all.3; lines = all.4 },
+    )
 
 -- what is read of a text
 pub text_read : (file : List ℕ) (part : Part) (from : ℕ) (out : List ℕ) → Has file part → from + length out ≤ part.head.text → (0 < length out → Holds file (64 + from) out) → (i : ℕ) → i < length out → slice_index out i ≡ slice_index part.text (from + i)

@@ -1,16 +1,16 @@
 -- Reading: what is read at a place, and what that says of the file.
-use Rattle.std.proofs.Common.{◌≡◌, ◌≢◌, ◌⊎◌, ℕ, zero, suc, ◌+◌, ◌*◌, ◌-◌, ◌/◌, ◌%◌, ◌<◌, ◌≤◌, List, [], ◌∷◌, ◌++◌, length, take, drop, min, refl, ap, sym, ◌∙◌, subst, inl, inr, arith, length-append, append_assoc, append-nil, get_or}
-use Rattle.std.specs.Prelude.{slice_index, flat_map, ◌==◌}
+use Rattle.std.proofs.Common.{◌≡◌, ℕ, ◌+◌, ◌*◌, ◌%◌, ◌<◌, ◌≤◌, List, [], ◌∷◌, ◌++◌, length, take, min, refl, ap, sym, ◌∙◌, subst, arith, length-append, append_assoc}
+use Rattle.std.specs.Prelude.{slice_index, ◌==◌}
 use Rattle.std.specs.List.{AllByRecursion, count_by}
 use Rattle.std.proofs.lemmas.List.Sums.{count_by-le-length}
 use Rattle.std.proofs.lemmas.List.{length-take-le}
 use Rattle.sqlite_disk.specs.Disk.{Holds}
 use Rattle.sqlite_disk.specs.Digest.{digest}
-use Rattle.line_journal.specs.Groups.{sevens, frame, frames, lines_of, length_told, IsGroup, Ends, Keeps}
+use Rattle.line_journal.specs.Groups.{sevens, frame, frames, lines_of, length_told, IsGroup, Ends}
 use Rattle.line_journal.specs.Finding.{HasSome, HasAll, FoundWithin, IsFoundIn, IsEnded, IsJudged}
 use Rattle.line_journal.specs.declared.zone.Found.{Found}
 use Rattle.line_journal.specs.declared.zone.Found.TheVariants.{Group, End, Broken}
-use Rattle.line_journal.proofs.Frames.{length-sevens, length-frame}
+use Rattle.line_journal.proofs.Frames.{length-frame}
 use Rattle.line_journal.proofs.Tearing.{holds_both, frames_last, length-frames_last, ends_in_head}
 
 -- no group stands where its head tells as many bytes as stand there, and one of them is a zero
@@ -71,9 +71,13 @@ lines_more groups g end most room fits =
 pub some_more : (file : List ℕ) (start end lines most : ℕ) (g : List ℕ) → HasSome file start end lines → IsGroup g → Holds file end (frame g) → end + (13 + length g) ≤ most
     → HasSome file start (end + (13 + length g)) (min (lines + count_by (λ byte. byte == 10) g) most)
 some_more file start end lines most g has is held fits =
-    let next : Holds file (start + length (frames has.0)) (frame g) = subst (λ (e : ℕ). Holds file e (frame g)) has.3 held in
-    (has.0 ++ g ∷ [], all_last has.0 g has.1 is, subst (λ (t : List ℕ). Holds file start t) (sym (frames_last has.0 g)) (holds_both file start (frames has.0) (frame g) has.2 next), omega (arith, has.3, length-frames_last has.0 g),
-      ap (λ (n : ℕ). min (n + count_by (λ byte. byte == 10) g) most) has.4 ∙ lines_more has.0 g (end + (13 + length g)) most (omega (arith, has.3)) fits)
+    let next : Holds file (start + length (frames has.0)) (frame g) = subst (λ (e : ℕ). Holds file e (frame g)) has.3 held in (
+      has.0 ++ g ∷ [],
+      all_last has.0 g has.1 is,
+      subst (λ (t : List ℕ). Holds file start t) (sym (frames_last has.0 g)) (holds_both file start (frames has.0) (frame g) has.2 next),
+      omega (arith, has.3, length-frames_last has.0 g),
+      ap (λ (n : ℕ). min (n + count_by (λ byte. byte == 10) g) most) has.4 ∙ lines_more has.0 g (end + (13 + length g)) most (omega (arith, has.3)) fits,
+    )
 
 -- and then none
 pub all_of_some : (file : List ℕ) (start end lines : ℕ) → HasSome file start end lines → Ends file end → HasAll file start end lines

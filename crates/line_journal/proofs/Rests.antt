@@ -127,22 +127,22 @@ blanks_on from at bytes old mid new low zeros first mixed = record {
       let step : (slice_index new i ≡ slice_index mid i) ⊎ (slice_index new i ≡ 0) = elim (cases_lt i at) [
         | inl less ↦ inl (mixed.torn.below i in_mid less)
         | inr behind ↦ elim (cases_lt i (at + length bytes)) [
-            | inr far ↦ inl (mixed.torn.above i in_mid far)
-            | inl near ↦
-                let within : i - at < length bytes = omega (arith, behind, near) in
-                let place : at + (i - at) ≡ i = omega (arith, behind) in
-                elim (mixed.each (i - at) within (omega (arith, place, in_mid))) [
-                  | inl same ↦ inl (subst (λ (j : ℕ). slice_index new j ≡ slice_index mid j) place same)
-                  | inr put ↦ inr (subst (λ (j : ℕ). slice_index new j ≡ 0) place (put ∙ zeros (i - at) within))
-                ]
-          ]
+          | inr far ↦ inl (mixed.torn.above i in_mid far)
+          | inl near ↦
+              let within : i - at < length bytes = omega (arith, behind, near) in
+              let place : at + (i - at) ≡ i = omega (arith, behind) in
+              elim (mixed.each (i - at) within (omega (arith, place, in_mid))) [
+                | inl same ↦ inl (subst (λ (j : ℕ). slice_index new j ≡ slice_index mid j) place same)
+                | inr put ↦ inr (subst (λ (j : ℕ). slice_index new j ≡ 0) place (put ∙ zeros (i - at) within))
+              ]
+        ]
       ] in
       elim step [
         | inr put ↦ inr put
         | inl same ↦ elim (first.each i there past) [
-            | inl was ↦ inl (same ∙ was)
-            | inr put ↦ inr (same ∙ put)
-          ]
+          | inl was ↦ inl (same ∙ was)
+          | inr put ↦ inr (same ∙ put)
+        ]
       ];
 }
 

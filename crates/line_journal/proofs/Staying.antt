@@ -1,20 +1,17 @@
 -- Staying: what a journal stands for, call by call.
-use Rattle.std.proofs.Common.{◌≡◌, ◌⊎◌, ℕ, ◌+◌, ◌-◌, ◌^◌, ◌<◌, ◌≤◌, Bool, true, false, MatchBool, List, [], ◌∷◌, ◌++◌, length, min, take, drop, refl, ap, sym, ◌∙◌, subst, inl, inr, arith, get_or, ◌==◌, add-one}
-use Rattle.std.specs.Prelude.{slice_index, Option, None, Some, Result, Ok, Err, IfOk, OnOk}
-use Rattle.std.specs.List.{AllByRecursion, count_by}
-use Rattle.std.proofs.lemmas.List.{get_or-take}
-use Rattle.std.proofs.lemmas.Bool.{cases_lt}
-use Rattle.sqlite_disk.specs.Disk.{Holds, Only}
-use Rattle.line_journal.specs.Groups.{frame, frames, lines_of, IsGroup, Ends, Keeps}
+use Rattle.std.proofs.Common.{◌≡◌, ◌⊎◌, ℕ, ◌+◌, ◌≤◌, Bool, true, false, MatchBool, List, [], ◌∷◌, ◌++◌, length, min, refl, ap, sym, ◌∙◌, subst, inl, inr, arith, ◌==◌}
+use Rattle.std.specs.Prelude.{Result, Ok, Err, IfOk, OnOk}
+use Rattle.std.specs.List.{count_by}
+use Rattle.sqlite_disk.specs.Disk.{Only}
+use Rattle.line_journal.specs.Groups.{frames, IsGroup, Keeps}
 use Rattle.line_journal.specs.Fronts.{IsShut}
 use Rattle.line_journal.specs.Halves.{IsHalfOf}
-use Rattle.line_journal.specs.Parts.{Part, Has, IsOlder, StandFor, with_group, snapshot_of, next_head, place_of, empty_part}
-use Rattle.line_journal.specs.Openings.{StandsOn, IsLastIn, IsLastOf, IsOpenedAs}
+use Rattle.line_journal.specs.Parts.{Part, Has, IsOlder, StandFor, with_group, snapshot_of, next_head, empty_part}
+use Rattle.line_journal.specs.Openings.{StandsOn}
 use Rattle.line_journal.specs.Resting.{IsAtRest, KeepsBelow}
 use Rattle.line_journal.specs.declared.half.Half.{Half}
 use Rattle.line_journal.specs.declared.head.Head.{Head}
 use Rattle.std.specs.Hash.DefaultHasher as sip
-use Rattle.line_journal.specs.declared.parts.Parts.{Parts}
 use Rattle.line_journal.proofs.Tearing.{length-frames_last}
 use Rattle.line_journal.proofs.Reading.{lines_more}
 use Rattle.line_journal.proofs.Keeping.{has_more, has_still}
@@ -71,8 +68,8 @@ module _ {D : Type 0} (seen : D → List ℕ) (may_leave : D → List ℕ → Ty
   of_stands x y a b l m j k part same_x same_y same_l same_j stands =
       subst (λ (z : D). StandsOn seen may_leave z b m k part) (sym same_x)
       (subst (λ (z : D). StandsOn seen may_leave x z m k part) (sym same_y)
-        (subst (λ (z : Half). StandsOn seen may_leave x y z k part) (sym same_l)
-          (subst (λ (z : ℕ). StandsOn seen may_leave x y l z part) (sym same_j) stands)))
+      (subst (λ (z : Half). StandsOn seen may_leave x y z k part) (sym same_l)
+      (subst (λ (z : ℕ). StandsOn seen may_leave x y l z part) (sym same_j) stands)))
 
   -- a snapshot is ended
   pub ended_stands : (current other new : D) (last half : Half) (limit : ℕ) (head : Head) (part : Part) (text : List ℕ) → StandsOn seen may_leave current other last limit part → head ≡ next_head part text

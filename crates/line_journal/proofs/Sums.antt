@@ -1,5 +1,5 @@
 -- Sums: the sum of a text does not depend on its pieces.
-use Rattle.std.proofs.Common.{◌≡◌, ℕ, List, [], ◌++◌, refl, ap, sym, ◌∙◌}
+use Rattle.std.proofs.Common.{◌≡◌, ℕ, List, [], ◌++◌, refl, sym}
 use Rattle.std.specs.Hash.DefaultHasher.{write, write_byte, initial}
 use Rattle.std.proofs.lemmas.List.Sums.{fold-append}
 

@@ -1,6 +1,6 @@
 -- Tearing: a group that is written into zeros is there or not, whatever a crash leaves of it.
-use Rattle.std.proofs.Common.{◌≡◌, ◌≢◌, ◌⊎◌, ℕ, zero, suc, ◌+◌, ◌-◌, ◌<◌, ◌≤◌, List, [], ◌∷◌, ◌++◌, length, refl, ap, sym, ◌∙◌, subst, inl, inr, arith, length-append, append-nil, get_or}
-use Rattle.std.specs.Prelude.{slice_index, flat_map}
+use Rattle.std.proofs.Common.{◌≡◌, ◌⊎◌, ℕ, zero, suc, ◌+◌, ◌-◌, ◌<◌, ◌≤◌, List, [], ◌∷◌, ◌++◌, length, refl, ap, sym, ◌∙◌, subst, inl, inr, arith, length-append, append-nil}
+use Rattle.std.specs.Prelude.{slice_index}
 use Rattle.std.proofs.lemmas.Bool.{cases_lt}
 use Rattle.std.proofs.lemmas.List.{get_or_append_left, get_or-append_right}
 use Rattle.std.proofs.lemmas.Grind.{flat_map-append}
@@ -21,9 +21,9 @@ all_or_zero at bytes old new is (suc k) few within zeros =
           elim (is.each k (omega arith) (omega arith)) [
             | inl same ↦ inr (k, omega arith, same ∙ zeros k (omega arith))
             | inr put ↦ inl (λ i low. elim (cases_lt i k) [
-                | inl less ↦ all i less
-                | inr past ↦ let here : k ≡ i = omega arith in subst (λ (j : ℕ). slice_index new (at + j) ≡ slice_index bytes j) here put
-              ])
+              | inl less ↦ all i less
+              | inr past ↦ let here : k ≡ i = omega arith in subst (λ (j : ℕ). slice_index new (at + j) ≡ slice_index bytes j) here put
+            ])
           ]
     ]
 
@@ -60,15 +60,15 @@ ends_where_torn at g old new is mixed within zeros i low lost =
     elim (mixed.each 0 (in_frame 0 (omega arith)) (there 0 (in_frame 0 (omega arith)))) [
       | inl same ↦ gone 0 (omega arith) same
       | inr first ↦ elim (mixed.each 1 (in_frame 1 (omega arith)) (there 1 (in_frame 1 (omega arith)))) [
-          | inl same ↦ gone 1 (omega arith) same
-          | inr second ↦ elim (mixed.each 2 (in_frame 2 (omega arith)) (there 2 (in_frame 2 (omega arith)))) [
-              | inl same ↦ gone 2 (omega arith) same
-              | inr third ↦
-                  let long = told_of g (slice_index new at) (slice_index new (at + 1)) (slice_index new (at + 2)) is (ap (λ (k : ℕ). slice_index new k) here ∙ first) second third in
-                  let few : i < 13 + length g = omega (arith, low, length-frame g) in
-                  record { place = i; near = omega (arith, few, is.few); covered = subst (λ (n : ℕ). i < 13 + n) (sym long) few; within = in_new i low; lost = lost }
-            ]
+        | inl same ↦ gone 1 (omega arith) same
+        | inr second ↦ elim (mixed.each 2 (in_frame 2 (omega arith)) (there 2 (in_frame 2 (omega arith)))) [
+          | inl same ↦ gone 2 (omega arith) same
+          | inr third ↦
+              let long = told_of g (slice_index new at) (slice_index new (at + 1)) (slice_index new (at + 2)) is (ap (λ (k : ℕ). slice_index new k) here ∙ first) second third in
+              let few : i < 13 + length g = omega (arith, low, length-frame g) in
+              record { place = i; near = omega (arith, few, is.few); covered = subst (λ (n : ℕ). i < 13 + n) (sym long) few; within = in_new i low; lost = lost }
         ]
+      ]
     ]
 
 -- what tells the length is as it was
@@ -96,14 +96,14 @@ ends_blanks file c at ends blanks =
           elim (blanks.each (at + 0) (in_file 0 (omega arith)) (omega arith)) [
             | inr put ↦ gone 0 (omega arith) put
             | inl first ↦ elim (blanks.each (at + 1) (in_file 1 (omega arith)) (omega arith)) [
-                | inr put ↦ gone 1 (omega arith) put
-                | inl second ↦ elim (blanks.each (at + 2) (in_file 2 (omega arith)) (omega arith)) [
-                    | inr put ↦ gone 2 (omega arith) put
-                    | inl third ↦
-                        let one : slice_index c at ≡ slice_index file at = subst (λ (k : ℕ). slice_index c k ≡ slice_index file k) here first in
-                        record { place = ends.place; near = ends.near; covered = told_same file c at ends.place one second third ends.covered; within = there; lost = lost }
-                  ]
+              | inr put ↦ gone 1 (omega arith) put
+              | inl second ↦ elim (blanks.each (at + 2) (in_file 2 (omega arith)) (omega arith)) [
+                | inr put ↦ gone 2 (omega arith) put
+                | inl third ↦
+                    let one : slice_index c at ≡ slice_index file at = subst (λ (k : ℕ). slice_index c k ≡ slice_index file k) here first in
+                    record { place = ends.place; near = ends.near; covered = told_same file c at ends.place one second third ends.covered; within = there; lost = lost }
               ]
+            ]
           ]
     ]
 
@@ -186,14 +186,16 @@ pub kept_below : (file d : List ℕ) (start limit : ℕ) (groups : List (List �
 kept_below file d start limit groups keeps zeros room below =
     let at = start + length (frames groups) in
     let blank : (i : ℕ) → at ≤ i → i < limit → slice_index d i ≡ 0 = λ i from low. below.below i (omega (arith, zeros.0, low)) low ∙ zeros.1 i from low in
-    let here : at ≤ at = omega arith in
-    (record {
-      front = record {
-        within = omega (arith, keeps.front.within, below.long);
-        each = λ i low. below.below (start + i) (omega (arith, keeps.front.within, low)) (omega (arith, low, room)) ∙ keeps.front.each i low;
-      };
-      last = ends_at_zero d at (omega (arith, zeros.0, room, below.long)) (blank at here room);
-    }, (omega (arith, zeros.0, below.long), blank))
+    let here : at ≤ at = omega arith in (
+      record {
+        front = record {
+          within = omega (arith, keeps.front.within, below.long);
+          each = λ i low. below.below (start + i) (omega (arith, keeps.front.within, low)) (omega (arith, low, room)) ∙ keeps.front.each i low;
+        };
+        last = ends_at_zero d at (omega (arith, zeros.0, room, below.long)) (blank at here room);
+      },
+      (omega (arith, zeros.0, below.long), blank),
+    )
 
 -- bytes that a write left where they were to be
 pub mixed_of_put : (at : ℕ) (bytes old new : List ℕ) → Torn at (length bytes) old new → Holds new at bytes → Mixed at bytes old new

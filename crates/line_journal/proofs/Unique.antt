@@ -1,13 +1,13 @@
 -- Parts: a file has one part, and keeps it where nothing of it changes.
-use Rattle.std.proofs.Common.{◌≡◌, ◌⊎◌, ℕ, zero, suc, ◌+◌, ◌-◌, ◌*◌, ◌/◌, ◌%◌, ◌^◌, ◌<◌, ◌≤◌, List, [], ◌∷◌, ◌++◌, length, refl, ap, sym, ◌∙◌, subst, inl, inr, arith, length-append}
+use Rattle.std.proofs.Common.{◌≡◌, ℕ, zero, suc, ◌+◌, ◌-◌, ◌/◌, ◌%◌, ◌^◌, ◌<◌, ◌≤◌, List, [], ◌∷◌, ◌++◌, length, refl, ap, sym, ◌∙◌, subst, inl, inr, arith, length-append}
 use Rattle.std.specs.Prelude.{slice_index}
 use Rattle.std.specs.List.{AllByRecursion}
 use Rattle.std.proofs.lemmas.Bool.{cases_lt}
 use Rattle.sqlite_disk.specs.Disk.{Holds}
 use Rattle.sqlite_disk.specs.Digest.{digest}
-use Rattle.line_journal.specs.Groups.{sevens, frames, IsGroup, Keeps}
+use Rattle.line_journal.specs.Groups.{sevens, IsGroup, Keeps}
 use Rattle.line_journal.specs.Fronts.{name, told, told_whole, front_bytes, FitsFront, IsShut}
-use Rattle.line_journal.specs.Parts.{Part, Has, IsOlder, StandFor, empty_part}
+use Rattle.line_journal.specs.Parts.{Part, Has, IsOlder, StandFor}
 use Rattle.line_journal.specs.Resting.{SameBelow}
 use Rattle.line_journal.specs.declared.head.Head.{Head}
 use Rattle.line_journal.proofs.One.{same_list, same_groups}

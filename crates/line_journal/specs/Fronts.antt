@@ -5,7 +5,7 @@ use Rattle.sqlite_disk.specs.Digest.{digest}
 use Rattle.line_journal.specs.Groups.{sevens}
 use Rattle.line_journal.specs.declared.head.Head.{Head}
 use Rattle.line_journal.specs.declared.head.Front.{Front}
-use Rattle.line_journal.specs.declared.head.Front.TheVariants.{Shut, Open, OtherVersion, Broken}
+use Rattle.line_journal.specs.declared.head.Front.TheVariants.{Shut, Open}
 
 -- "sched journal 1"
 abbrev pub name : List ℕ

@@ -1,6 +1,5 @@
 -- What two files have, and what opening makes of them (this project's rule).
 use Rattle.std.specs.Prelude.{◌≡◌, ℕ, ◌+◌, ◌<◌, MatchBool, true, false, List, Option, None, Some}
-use Rattle.sqlite_disk.specs.Disk.{Only}
 use Rattle.line_journal.specs.declared.half.Half.{Half}
 use Rattle.line_journal.specs.declared.parts.Parts.{Parts}
 use Rattle.line_journal.specs.Halves.{IsInFile, IsHalfOf}

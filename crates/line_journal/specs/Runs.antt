@@ -1,5 +1,5 @@
 -- What a journal keeps over a whole run, with crashes and errors anywhere (this project's rule).
-use Rattle.std.specs.Prelude.{◌≡◌, ◌⊎◌, ℕ, ◌+◌, ◌-◌, ◌^◌, ◌≤◌, List, [], ◌∷◌, ◌++◌, min, take, length}
+use Rattle.std.specs.Prelude.{◌≡◌, ◌⊎◌, ℕ, ◌-◌, ◌^◌, List, [], ◌∷◌, ◌++◌, min}
 use Rattle.line_journal.specs.Groups.{lines_of}
 use Rattle.line_journal.specs.Parts.{Part, with_group, snapshot_of, next_head}
 

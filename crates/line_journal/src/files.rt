@@ -66,11 +66,7 @@ fn read_groups<D: Disk>(
 }
 
 /// The sum of the first bytes behind a file's front.
-fn sum_of_text<D: Disk>(
-    disk: &mut D,
-    bytes: usize,
-    buffer: &mut [u8],
-) -> Result<u64, JournalError>
+fn sum_of_text<D: Disk>(disk: &mut D, bytes: usize, buffer: &mut [u8]) -> Result<u64, JournalError>
     requires { bytes ≤ MOST_FILE }
     ensures seen { D.Disk.seen disk.new ≡ D.Disk.seen disk.old }
     ensures clean { IsTrue (D.Disk.is_clean disk.new) → IsTrue (D.Disk.is_clean disk.old) }

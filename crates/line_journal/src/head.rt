@@ -169,7 +169,9 @@ fn head_in(front: &[u8]) -> Head
 fn number_in(bytes: &[u8]) -> u64 {
     let mut number = 0u64;
     for byte in bytes.iter().rev() {
-        number = number.wrapping_mul(128).wrapping_add(u64::from(*byte % 128));
+        number = number
+            .wrapping_mul(128)
+            .wrapping_add(u64::from(*byte % 128));
     }
     number
 }

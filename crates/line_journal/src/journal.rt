@@ -288,7 +288,11 @@ impl<D: Disk, A: Allocator> Journal<D, A> {
         let end = self.last.groups.end;
         self.limit = append_group(&mut self.current, end, self.limit, lines, &mut self.buffer)?;
         self.last.groups.end = end + (HEAD + lines.len());
-        self.last.groups.lines = self.last.groups.lines.saturating_add(lines_in(lines) as u64);
+        self.last.groups.lines = self
+            .last
+            .groups
+            .lines
+            .saturating_add(lines_in(lines) as u64);
         self.is_sound = true;
         Ok(())
     }

@@ -177,9 +177,5 @@ fn is_whole<D: Disk>(
     ensures clean { IsTrue (D.Disk.is_clean disk.new) → IsTrue (D.Disk.is_clean disk.old) }
     ensures leaves { (c : List ℕ) → D.Disk.may_leave disk.new c → D.Disk.may_leave disk.old c }
 {
-    Ok(matches!(
-        read_group(disk, at, len, buffer)?,
-        Found::Group(_)
-    ))
+    Ok(matches!(read_group(disk, at, len, buffer)?, Found::Group(_)))
 }
-

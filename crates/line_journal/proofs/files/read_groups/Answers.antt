@@ -1,4 +1,4 @@
-use Rattle.std.proofs.Common.{◌≡◌, ℕ, ◌+◌, ◌≤◌, length, sym, ap, subst, arith}
+use Rattle.std.proofs.Common.{◌+◌, ◌≤◌, length, sym, subst, arith}
 use Rattle.line_journal.specs.Finding.{HasAll}
 use Rattle.line_journal.proofs.Placing.{part_read}
 use Rattle.line_journal.proofs.files.read_groups.Goals as goal

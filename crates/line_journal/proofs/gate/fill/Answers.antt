@@ -1,5 +1,5 @@
 use Rattle.std.proofs.Common.{◌≡◌, ℕ, ◌+◌, List, length, sym, subst, ap, ◌∙◌, arith}
-use Rattle.sqlite_disk.specs.Disk.{Holds, Torn, Only}
+use Rattle.sqlite_disk.specs.Disk.{Holds, Torn}
 use Rattle.line_journal.specs.Fronts.{told_whole}
 use Rattle.line_journal.specs.Gates.{IsReady}
 use Rattle.line_journal.proofs.Unique.{length-told_whole}
@@ -35,5 +35,5 @@ returns-clause-ready g c =
     let torn : Torn 1 (length (told_whole head)) (d.seen c.put_zeros.new.disk) (d.seen c.put_piece.new.disk) = subst (λ (t : List ℕ). Torn 1 (length t) (d.seen c.put_zeros.new.disk) (d.seen c.put_piece.new.disk)) is c.put_piece.ensures.others in
     let held : Holds (d.seen c.put_piece.new.disk) 1 (told_whole head) = subst (λ (t : List ℕ). Holds (d.seen c.put_piece.new.disk) 1 t) is (c.in_ok-put_piece.ensures.written (omega (arith, size))) in
     on_ok c.sync.result _ (λ closed text long there.
-      subst (λ (f : List ℕ). IsReady f head text) (sym c.sync.ensures.seen)
-      (ready head text (d.seen c.args.disk.now) (d.seen c.put_zeros.new.disk) (d.seen c.put_piece.new.disk) long closed.now there c.put_zeros.ensures.below c.in_ok-put_zeros.ensures.blank torn held))
+    subst (λ (f : List ℕ). IsReady f head text) (sym c.sync.ensures.seen)
+    (ready head text (d.seen c.args.disk.now) (d.seen c.put_zeros.new.disk) (d.seen c.put_piece.new.disk) long closed.now there c.put_zeros.ensures.below c.in_ok-put_zeros.ensures.blank torn held))

@@ -1,4 +1,4 @@
-use Rattle.std.proofs.Common.{◌≡◌, ℕ, ◌-◌, ◌++◌, length, take}
+use Rattle.std.proofs.Common.{◌≡◌, ◌-◌, ◌++◌, length, take}
 use Rattle.line_journal.specs.Groups.{sevens}
 use Rattle.line_journal.proofs.group.put_sevens.Given as goal
 

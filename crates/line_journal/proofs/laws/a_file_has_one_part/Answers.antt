@@ -1,7 +1,4 @@
 use Rattle.line_journal.proofs.Unique.{same_part}
-use Rattle.line_journal.proofs.Gates.{gate}
-use Rattle.line_journal.proofs.Keeping.{has_cut}
-use Rattle.line_journal.proofs.Sums.{write_more}
 use Rattle.line_journal.proofs.laws.a_file_has_one_part.Goals as goal
 
 pub returns : goal.returns

@@ -1,6 +1,4 @@
 use Rattle.line_journal.proofs.History.{kept_over, front_of_run}
-use Rattle.line_journal.proofs.Staying.{repaired}
-use Rattle.line_journal.proofs.Placing.{next_found}
 use Rattle.line_journal.proofs.laws.no_answered_line_is_lost.Goals as goal
 
 pub returns-clause-kept : goal.returns-clause-kept

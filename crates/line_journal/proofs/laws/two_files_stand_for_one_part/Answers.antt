@@ -1,5 +1,4 @@
 use Rattle.line_journal.proofs.Unique.{same_standing, stand_turned}
-use Rattle.line_journal.proofs.Choosing.{chosen_last}
 use Rattle.line_journal.proofs.laws.two_files_stand_for_one_part.Goals as goal
 
 pub returns-clause-one : goal.returns-clause-one

@@ -1,4 +1,4 @@
-use Rattle.std.proofs.Common.{ℕ, List, [], refl, ap, ◌∙◌, inl, arith}
+use Rattle.std.proofs.Common.{[], refl, ap, ◌∙◌, inl, arith}
 use Rattle.std.specs.Hash.DefaultHasher as sip
 use Rattle.line_journal.proofs.Staying.{snapshot_head, new_stands, new_left, none_left, new_head, if_ok_map}
 use Rattle.line_journal.proofs.opening.new_half.Goals as goal
@@ -16,4 +16,4 @@ pub returns-clause-opened : goal.returns-clause-opened
 returns-clause-opened g c =
     let is = new_head c.args.workers c.finish.result (c.finish.ensures ∙ ap sip.finish c.new.ensures) in
     if_ok_map c.unshut.result _ _ _ c.unshut.ensures.half c.unshut.ensures.has (λ half tells has second shut only.
-      new_stands g.D.Disk.seen g.D.Disk.may_leave c.unshut.new.disk second half (snapshot_head c.args.workers c.finish.result) c.args.workers is tells (has c.in_ok-shut.ensures.closed [] refl (λ i low. absurd (omega (arith, low)))) shut only)
+    new_stands g.D.Disk.seen g.D.Disk.may_leave c.unshut.new.disk second half (snapshot_head c.args.workers c.finish.result) c.args.workers is tells (has c.in_ok-shut.ensures.closed [] refl (λ i low. absurd (omega (arith, low)))) shut only)

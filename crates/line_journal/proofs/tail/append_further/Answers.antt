@@ -1,4 +1,4 @@
-use Rattle.std.proofs.Common.{◌≡◌, ℕ, ◌+◌, ◌<◌, ◌≤◌, ◌∙◌, inl, arith}
+use Rattle.std.proofs.Common.{ℕ, ◌+◌, ◌<◌, ◌≤◌, ◌∙◌, inl, arith}
 use Rattle.line_journal.proofs.Rests.{below_less, both_below, rest_after, crash_ahead, crash_after}
 use Rattle.line_journal.proofs.tail.append_further.Goals as goal
 

@@ -1,4 +1,4 @@
-use Rattle.std.proofs.Common.{◌+◌, arith}
+use Rattle.std.proofs.Common.{arith}
 use Rattle.line_journal.proofs.Rests.{below_self, below_torn, blank_none, follows_self, rest_after, crash_after}
 use Rattle.line_journal.proofs.tail.append_here.Goals as goal
 

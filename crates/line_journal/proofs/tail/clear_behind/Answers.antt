@@ -26,11 +26,12 @@ pub returns-clause-rests : goal.returns-clause-rests
 returns-clause-rests g c = on_ok_map c.sync.result _ _ c.sync.ensures.durable (λ only part has ends.
     let d = g.D.Disk in
     let end = c.args.end in
-    let kept = has_cleared (d.seen c.args.disk.now) (d.seen c.put_zeros.new.disk) (d.seen c.cut.new.disk) part end has ends c.put_zeros.ensures.below c.in_ok-put_zeros.ensures.blank c.cut.ensures.others c.in_ok-cut.ensures.len in
-    (subst (λ (f : List ℕ). Has f part) (sym c.sync.ensures.seen) kept.0,
+    let kept = has_cleared (d.seen c.args.disk.now) (d.seen c.put_zeros.new.disk) (d.seen c.cut.new.disk) part end has ends c.put_zeros.ensures.below c.in_ok-put_zeros.ensures.blank c.cut.ensures.others c.in_ok-cut.ensures.len in (
+      subst (λ (f : List ℕ). Has f part) (sym c.sync.ensures.seen) kept.0,
       record {
         durable = λ e left. only e left ∙ sym c.sync.ensures.seen;
         keeps = subst (λ (f : List ℕ). Keeps f (64 + part.head.text) part.groups) (sym c.sync.ensures.seen) kept.0.keeps;
         ends = ends;
         zeros = subst (λ (f : List ℕ). HasZeros f end (end + 131072)) (sym c.sync.ensures.seen) kept.1;
-      }))
+      },
+    ))

@@ -1,5 +1,5 @@
 -- a piece more of zeros
-use Rattle.std.proofs.Common.{◌≡◌, ℕ, ◌+◌, ◌<◌, ◌≤◌, List, length, take, replicate, ap, sym, ◌∙◌, subst, arith}
+use Rattle.std.proofs.Common.{◌≡◌, ℕ, ◌+◌, ◌<◌, ◌≤◌, List, length, take, replicate, ap, ◌∙◌, subst, arith}
 use Rattle.std.specs.Prelude.{slice_index}
 use Rattle.std.proofs.lemmas.List.{length-take-le, length-replicate, take-replicate, get_or-replicate}
 use Rattle.line_journal.specs.Resting.{IsBlank}
@@ -31,7 +31,7 @@ pieces-preserved g c =
       below = piece_below c.args.from c.pieces.at _ _ _ _ h.place h.below put.others;
       crash = piece_crash c.args.from c.pieces.at _ _ _ _ h.place h.crash put.crash;
       blank = subst (λ (k : ℕ). IsBlank (d.seen c.put_piece.new.disk) c.args.from (c.pieces.at + k)) long
-        (piece_blank c.args.from c.pieces.at (take n blanks) (d.seen c.pieces.disk) (d.seen c.put_piece.new.disk) h.blank put.others (put.written (omega (arith, some, long))) (λ i low. zero_in n i few (omega (arith, low, long))));
+          (piece_blank c.args.from c.pieces.at (take n blanks) (d.seen c.pieces.disk) (d.seen c.put_piece.new.disk) h.blank put.others (put.written (omega (arith, some, long))) (λ i low. zero_in n i few (omega (arith, low, long))));
       blanks = λ mixes. piece_blanks c.args.from c.pieces.at (take n blanks) _ _ _ h.place (λ i low. zero_in n i few (omega (arith, low, long))) (h.blanks mixes) (put.mixed (mixes c.pieces.disk) (omega (arith, long, c.min-n.ensures, c.ranges.to)));
       clean = put.clean ∙ h.clean;
     }

@@ -1,4 +1,4 @@
-use Rattle.std.proofs.Common.{ℕ, ◌<◌, length, take, replicate, arith, List}
+use Rattle.std.proofs.Common.{ℕ, ◌<◌, length, replicate, arith, List}
 use Rattle.std.proofs.lemmas.List.{length-take-le, length-replicate}
 use Rattle.line_journal.proofs.Reading.{found_at_end, within_at_end}
 use Rattle.line_journal.proofs.zone.read_end.Goals as goal

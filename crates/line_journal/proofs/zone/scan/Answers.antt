@@ -1,5 +1,5 @@
 -- one group more
-use Rattle.std.proofs.Common.{◌≡◌, ℕ, ◌+◌, ◌≤◌, length, min, ap, sym, subst, ◌∙◌, arith}
+use Rattle.std.proofs.Common.{ℕ, ◌+◌, ◌≤◌, length, min, ap, sym, subst, ◌∙◌, arith}
 use Rattle.line_journal.specs.Finding.{HasSome}
 use Rattle.line_journal.proofs.Reading.{some_found}
 use Rattle.line_journal.proofs.zone.scan.Goals as goal

@@ -1,4 +1,4 @@
-use Rattle.std.proofs.Common.{◌≡◌, ℕ, ◌+◌, ◌<◌, List, [], ◌∷◌, ◌++◌, length, min, refl, ap, ◌∙◌, sym, subst, inl, arith}
+use Rattle.std.proofs.Common.{ℕ, ◌+◌, List, length, min, refl, ap, ◌∙◌, subst, inl, arith}
 use Rattle.line_journal.specs.Resting.{KeepsBelow}
 use Rattle.line_journal.specs.declared.half.Half.{Half}
 use Rattle.line_journal.proofs.Staying.{stands_left, append_left, half_more}

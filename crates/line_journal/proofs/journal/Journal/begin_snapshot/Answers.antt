@@ -1,5 +1,5 @@
-use Rattle.std.proofs.Common.{◌≡◌, ℕ, ◌+◌, ◌<◌, List, [], refl, ◌∙◌, arith}
-use Rattle.line_journal.proofs.Staying.{stands_left, stands_older}
+use Rattle.std.proofs.Common.{refl, ◌∙◌, arith}
+use Rattle.line_journal.proofs.Staying.{stands_older}
 use Rattle.line_journal.proofs.Gates.{closed_older}
 use Rattle.line_journal.proofs.Sums.{write_none}
 use Rattle.line_journal.proofs.journal.Journal.begin_snapshot.Goals as goal
@@ -16,6 +16,7 @@ returns-clause-crash g c mixes part stands e h left right =
 
 pub returns-clause-kept : goal.returns-clause-kept
 returns-clause-kept g c part stands =
-    let closed = c.in_ok-shut.ensures.closed in
-    (record { has = stands.has; half = stands.half; rest = stands.rest; older = λ e left. closed_older e part.head.turn (closed.left e left) },
-      record { begun = refl; closed = closed; long = refl; there = λ i low. absurd (omega (arith, low)); sum = c.new-self.ensures ∙ write_none })
+    let closed = c.in_ok-shut.ensures.closed in (
+      record { has = stands.has; half = stands.half; rest = stands.rest; older = λ e left. closed_older e part.head.turn (closed.left e left) },
+      record { begun = refl; closed = closed; long = refl; there = λ i low. absurd (omega (arith, low)); sum = c.new-self.ensures ∙ write_none },
+    )

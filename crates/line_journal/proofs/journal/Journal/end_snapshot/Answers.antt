@@ -1,4 +1,4 @@
-use Rattle.std.proofs.Common.{◌≡◌, ℕ, ◌+◌, length, refl, ap, sym, subst, ◌∙◌, inl}
+use Rattle.std.proofs.Common.{◌≡◌, ◌+◌, length, refl, ap, sym, subst, inl}
 use Rattle.line_journal.specs.declared.head.Head.{Head}
 use Rattle.line_journal.specs.Parts.{next_head, snapshot_of}
 use Rattle.line_journal.proofs.Staying.{stands_left, of_stands, ended_stands, ended_left, either_turned}
@@ -26,7 +26,7 @@ returns-clause-crash g c mixes part text stands drafting e h left right =
     let long : length text ≡ head.text = sym (ap (λ (k : Head). k.text) is) in
     either_turned part.head.workers h e part (snapshot_of (next_head part text) text)
     (ended_left g.D.Disk.seen g.D.Disk.may_leave part.head.workers self.current self.other self.last self.limit head part text stands is h e (subst (λ x. g.D.Disk.may_leave x h) c.swap.ensures.y_after right)
-      (c.unshut.ensures.crash mixes drafting.closed text long drafting.there e (subst (λ x. g.D.Disk.may_leave x e) c.swap.ensures.x_after left)))
+    (c.unshut.ensures.crash mixes drafting.closed text long drafting.there e (subst (λ x. g.D.Disk.may_leave x e) c.swap.ensures.x_after left)))
 
 pub returns-clause-kept : goal.returns-clause-kept
 returns-clause-kept g c part text stands drafting =
@@ -36,4 +36,4 @@ returns-clause-kept g c part text stands drafting =
     let long : length text ≡ head.text = sym (ap (λ (k : Head). k.text) is) in
     of_stands g.D.Disk.seen g.D.Disk.may_leave c.unshut.new.disk self.current c.swap.new.x c.swap.new.y c.in_ok-half.half c.in_ok-half.half (c.in_ok-half.half.groups.end + 131072) (c.in_ok-half.half.groups.end + 131072) (snapshot_of (next_head part text) text) c.swap.ensures.x_after c.swap.ensures.y_after refl refl
     (ended_stands g.D.Disk.seen g.D.Disk.may_leave self.current self.other c.unshut.new.disk self.last c.in_ok-half.half self.limit head part text stands is c.in_ok-half.ensures.half
-      (c.in_ok-half.ensures.has drafting.closed text long drafting.there))
+    (c.in_ok-half.ensures.has drafting.closed text long drafting.there))

@@ -1,4 +1,4 @@
-use Rattle.std.proofs.Common.{◌≡◌, ℕ, IsTrue, List, sym, subst}
+use Rattle.std.proofs.Common.{IsTrue, subst}
 use Rattle.line_journal.proofs.Staying.{of_stands, at_true, at_false}
 use Rattle.line_journal.proofs.Unique.{stand_turned}
 use Rattle.line_journal.proofs.journal.Journal.open.Goals as goal
