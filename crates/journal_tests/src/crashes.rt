@@ -1,6 +1,6 @@
 //! A crash at each call of the disk, and what it leaves: the lines from before the call, with the group or without.
 use crate::disks::{
-    Draws, Image, TestDisk, disk_of, empty_files, lines_behind, open, put_snapshot, text_of,
+    Draws, Image, TestDisk, append, disk_of, empty_files, lines_behind, open, put_snapshot, text_of,
 };
 use line_journal::{Journal, Which};
 use sqlite_disk::Files;
@@ -45,7 +45,7 @@ fn crashed(
         Ok(mut journal) => {
             let outcome = match step {
                 Step::Open => Ok(()),
-                Step::Append => journal.append(b"clock 8\nstart 1\n"),
+                Step::Append => append(&mut journal, b"clock 8\nstart 1\n"),
                 Step::Snapshot => put_snapshot(&mut journal, b"sched snapshot 1\nnew\n"),
             };
             (journal.close(), outcome.is_ok())
@@ -77,12 +77,12 @@ fn read_all(alloc: Global, bytes: &Bytes) -> Result<(u64, Vec<u8>, Vec<u8>), Fai
 /// A journal with two snapshots and lines behind both.
 pub fn filled(alloc: Global) -> Result<Bytes, Fail> {
     let mut journal = open(alloc, empty_files(alloc)?)?;
-    journal.append(b"clock 1\n")?;
+    append(&mut journal, b"clock 1\n")?;
     put_snapshot(&mut journal, b"sched snapshot 1\none\n")?;
-    journal.append(b"clock 2\n")?;
-    journal.append(b"clock 3\n")?;
+    append(&mut journal, b"clock 2\n")?;
+    append(&mut journal, b"clock 3\n")?;
     put_snapshot(&mut journal, b"sched snapshot 1\nthree\n")?;
-    journal.append(b"clock 4\n")?;
+    append(&mut journal, b"clock 4\n")?;
     let files = journal.close();
     Ok(Bytes {
         log: files.log.inner().bytes().to_vec(alloc)?,

@@ -1,24 +1,29 @@
 //! Bytes that change on the disk: the journal is refused, or what is read is a front of what was put.
 use crate::crashes::{Bytes, filled};
-use crate::disks::{Draws, empty_files, files_of, lines_behind, open, text_of};
+use crate::disks::{Draws, append, empty_files, files_of, lines_behind, open, text_of};
 use line_journal::{JournalError, Which};
 use std::test::Fail;
 
 /// The bytes with one of the first 600 of one file changed.
 fn changed(bytes: &mut Bytes, draws: &mut Draws) {
-    let file = if draws.below(2) == 0 {
-        &mut bytes.log
+    if draws.below(2) == 0 {
+        change(&mut bytes.log, draws);
     } else {
-        &mut bytes.db
-    };
-    let at = draws.below(600);
-    if let Some(byte) = file.as_mut_slice().get_mut(at) {
-        *byte = match draws.below(3) {
-            0 => 0,
-            1 => *byte ^ (1 << draws.below(8).min(7)),
-            _ => draws.below(256).min(255) as u8,
-        };
+        change(&mut bytes.db, draws);
     }
+}
+
+/// Changes one of the first 600 bytes of a file.
+fn change(file: &mut Vec<u8>, draws: &mut Draws) {
+    let at = draws.below(600);
+    if at >= file.len() {
+        return;
+    }
+    file[at] = match draws.below(3) {
+        0 => 0,
+        1 => file[at] ^ (1 << draws.below(8).min(7)),
+        _ => draws.below(256).min(255) as u8,
+    };
 }
 
 #[test]
@@ -60,9 +65,9 @@ fn what_decays_is_refused_or_a_front(rt: HostRuntime) -> Result<(), Fail> {
 fn a_broken_middle_is_told(rt: HostRuntime) -> Result<(), Fail> {
     let alloc = rt.alloc();
     let mut journal = open(alloc, empty_files(alloc)?)?;
-    journal.append(b"clock 1\n")?;
-    journal.append(b"clock 2\n")?;
-    journal.append(b"clock 3\n")?;
+    append(&mut journal, b"clock 1\n")?;
+    append(&mut journal, b"clock 2\n")?;
+    append(&mut journal, b"clock 3\n")?;
     let bytes = journal.close().log.inner().bytes().to_vec(alloc)?;
     // A byte of the second group becomes another one, or a zero.
     for byte in [b'9', 0] {

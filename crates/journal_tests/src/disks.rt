@@ -154,6 +154,11 @@ pub fn text_of(
     Ok(all)
 }
 
+/// Puts a group of lines.
+pub fn append(journal: &mut Journal<TestDisk, Global>, lines: &[u8]) -> Result<(), JournalError> {
+    journal.append(lines)
+}
+
 /// Puts a snapshot with this text.
 pub fn put_snapshot(
     journal: &mut Journal<TestDisk, Global>,

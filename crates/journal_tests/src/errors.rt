@@ -1,5 +1,5 @@
 //! Each error.
-use crate::disks::{empty_files, files_of, open, put_snapshot};
+use crate::disks::{append, empty_files, files_of, open, put_snapshot};
 use line_journal::{Journal, JournalError, MOST_GROUP};
 use std::test::Fail;
 
@@ -8,12 +8,12 @@ fn what_is_no_group_is_refused(rt: HostRuntime) -> Result<(), Fail> {
     let alloc = rt.alloc();
     let mut journal = open(alloc, empty_files(alloc)?)?;
     for lines in [b"".as_slice(), b"clock 5", b"clock 5\0\n"] {
-        assert!(rt; journal.append(lines) == Err(JournalError::NotLines));
+        assert!(rt; append(&mut journal, lines) == Err(JournalError::NotLines));
     }
     let mut long = Vec::from_elem(alloc, b'\n', MOST_GROUP)?;
-    journal.append(&long)?;
+    append(&mut journal, &long)?;
     long.push(b'\n')?;
-    assert!(rt; journal.append(&long) == Err(JournalError::NotLines));
+    assert!(rt; append(&mut journal, &long) == Err(JournalError::NotLines));
     assert!(rt; journal.lines() == 65_536);
     assert!(rt; journal.end_snapshot() == Err(JournalError::NotLines));
     Ok(())
@@ -49,9 +49,9 @@ fn a_failed_write_ends_it(rt: HostRuntime) -> Result<(), Fail> {
     let files = open(alloc, empty_files(alloc)?)?.close();
     let bytes = files.log.inner().bytes().to_vec(alloc)?;
     let mut journal = open(alloc, files_of(alloc, &bytes, b"", [u64::MAX, 3])?)?;
-    journal.append(b"clock 5\n")?;
+    append(&mut journal, b"clock 5\n")?;
     assert!(rt; put_snapshot(&mut journal, b"text") == Err(JournalError::NotWritten));
-    assert!(rt; journal.append(b"clock 6\n") == Err(JournalError::NotWritten));
+    assert!(rt; append(&mut journal, b"clock 6\n") == Err(JournalError::NotWritten));
     assert!(rt; journal.lines() == 1);
     let none = files_of(alloc, &bytes, b"", [0, 0])?;
     assert!(rt; open(alloc, none).err() == Some(JournalError::NotRead));

@@ -1,5 +1,5 @@
 //! What is put is read back, in this run and in later ones.
-use crate::disks::{empty_files, lines_behind, open, put_snapshot, text_of};
+use crate::disks::{append, empty_files, lines_behind, open, put_snapshot, text_of};
 use line_journal::Which;
 use std::test::Fail;
 
@@ -8,8 +8,8 @@ fn lines_are_read_back(rt: HostRuntime) -> Result<(), Fail> {
     let alloc = rt.alloc();
     let mut journal = open(alloc, empty_files(alloc)?)?;
     assert!(rt; journal.lines() == 0);
-    journal.append(b"clock 5\n")?;
-    journal.append(b"start 0\nclock 6\n")?;
+    append(&mut journal, b"clock 5\n")?;
+    append(&mut journal, b"start 0\nclock 6\n")?;
     assert!(rt; journal.lines() == 3);
     let mut again = open(alloc, journal.close())?;
     assert!(rt; again.lines() == 3);
@@ -17,7 +17,7 @@ fn lines_are_read_back(rt: HostRuntime) -> Result<(), Fail> {
         lines_behind(alloc, &mut again, Which::Last)?.as_slice(),
         b"clock 5\nstart 0\nclock 6\n".as_slice()
     );
-    again.append(b"clock 7\n")?;
+    append(&mut again, b"clock 7\n")?;
     let mut third = open(alloc, again.close())?;
     assert_eq!(rt;
         lines_behind(alloc, &mut third, Which::Last)?.as_slice(),
@@ -30,11 +30,11 @@ fn lines_are_read_back(rt: HostRuntime) -> Result<(), Fail> {
 fn snapshots_are_read_back(rt: HostRuntime) -> Result<(), Fail> {
     let alloc = rt.alloc();
     let mut journal = open(alloc, empty_files(alloc)?)?;
-    journal.append(b"clock 5\n")?;
+    append(&mut journal, b"clock 5\n")?;
     put_snapshot(&mut journal, b"sched snapshot 1\nof one\n")?;
-    journal.append(b"clock 6\nclock 7\n")?;
+    append(&mut journal, b"clock 6\nclock 7\n")?;
     put_snapshot(&mut journal, b"sched snapshot 1\nof three lines\n")?;
-    journal.append(b"clock 8\n")?;
+    append(&mut journal, b"clock 8\n")?;
     let mut again = open(alloc, journal.close())?;
     assert!(rt; again.lines() == 4);
     assert_eq!(rt;
@@ -70,7 +70,7 @@ fn many_groups_go_on_behind_the_zeros(rt: HostRuntime) -> Result<(), Fail> {
     let mut group = group;
     group.push(b'\n')?;
     for _ in 0..12 {
-        journal.append(&group)?;
+        append(&mut journal, &group)?;
     }
     let mut again = open(alloc, journal.close())?;
     assert!(rt; again.lines() == 12);
