@@ -1,11 +1,12 @@
 //! Want of memory: rows are played with each growth refused in turn, and all before and behind it granted.
 
+use super::lines::add;
 use super::steps::{do_step, look};
 use super::{play_case, play_rows};
 use crate::said::text_of_lines;
 use crate::words::{Row, Words, compare, lone};
 use executor_model::{Answer, Line};
-use live_core::{LinesError, MakeError, ScheduledExecutor};
+use live_core::{MakeError, ScheduledExecutor};
 use refusing_allocator::Refusing;
 use std::alloc::{AllocGlobal, Allocator, Global};
 use std::process::Abort;
@@ -132,16 +133,8 @@ fn lines_of<A: Allocator>(
     executor: &ScheduledExecutor<A>,
 ) -> Result<Vec<Line>, Fail> {
     let mut lines = Vec::new(alloc);
-    add_lines(executor, &mut lines)?;
+    add(executor, Answer::Clock, &mut lines)?;
     Ok(lines)
-}
-
-/// Adds the lines of a clock, and of what the last call ended.
-fn add_lines<A: Allocator>(
-    executor: &ScheduledExecutor<A>,
-    lines: &mut Vec<Line>,
-) -> Result<(), LinesError> {
-    executor.add_lines(Answer::Clock, lines)
 }
 
 /// Whether memory was wanted by a step that may want it.

@@ -10,7 +10,7 @@ use std::process::Abort;
 use std::test::Fail;
 
 /// Adds the lines of what happened last.
-fn add<A: Allocator, B: Allocator>(
+pub fn add<A: Allocator, B: Allocator>(
     executor: &ScheduledExecutor<A>,
     answer: Answer,
     lines: &mut Vec<Line, B>,

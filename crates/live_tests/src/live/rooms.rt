@@ -70,7 +70,8 @@ fn takes_no_memory<A: Allocator>(
 
 /// Does a step with a 0, and tells whether this is told.
 fn tells<A: Allocator>(executor: &mut ScheduledExecutor<A>, step: &str, wanted: &str) -> bool {
-    do_step(executor, with_one(step, 0)).word == wanted
+    let told = do_step(executor, with_one(step, 0));
+    told.word == wanted
 }
 
 /// Submits so many tasks, and tells whether each was accepted.
