@@ -17,7 +17,7 @@
 #endif
 
 #define LONGEST (UINT64_C(1) << 62)
-#define MOST_WORKERS 64
+#define MOST_WORKERS 255
 #define MOST_SLOTS (UINT32_C(1) << 30)
 #define NO_SLOT UINT32_MAX
 
